@@ -1,9 +1,9 @@
-//! The journal: `bench journal append DIR COUNT` adds so many records of 92 bytes to the log of a directory, and
-//! `bench journal start DIR COUNT` starts its log so often.
+//! The journal: `bench journal append DIR COUNT` begins the log of a directory anew and adds so many records of 92 bytes, and
+//! `bench journal read DIR COUNT` reads its log so often.
 
 use crate::common::number;
 use anyhow::{Result, bail};
-use fb_journal::{Journal, Mark, frame};
+use fb_journal::{Journal, Mark, Reading, frame};
 use fb_ports::{Disk, Host, Part};
 use real_ports::RealHost;
 
@@ -13,13 +13,13 @@ const PAYLOAD: [u8; 83] = [7; 83];
 #[derive(Clone, Copy)]
 enum Task {
     Append,
-    Start,
+    Read,
 }
 
 fn task_of(word: &str) -> Option<Task> {
     match word {
         "append" => Some(Task::Append),
-        "start" => Some(Task::Start),
+        "read" => Some(Task::Read),
         _ => None,
     }
 }
@@ -34,7 +34,7 @@ pub(crate) fn perform(rt: &HostRuntime, words: &[String]) -> Result<bool> {
     let mut host = RealHost::new(*rt);
     let done = match task {
         Task::Append => append_all(rt, &mut host, dir.as_str(), count),
-        Task::Start => start_all(rt, &mut host, dir.as_str(), count),
+        Task::Read => read_all(rt, &mut host, dir.as_str(), count),
     };
     if !done {
         bail!("the journal failed");
@@ -43,9 +43,12 @@ pub(crate) fn perform(rt: &HostRuntime, words: &[String]) -> Result<bool> {
 }
 
 fn append_all<H: Host>(rt: &HostRuntime, host: &mut H, dir: &str, count: u32) -> bool {
-    match started(rt, host, dir) {
-        Some(mut journal) => append_each(rt, &mut journal, count),
-        None => false,
+    let Ok(disk) = host.disk(rt.alloc(), dir, Part::Log) else {
+        return false;
+    };
+    match Journal::anew(disk, Mark::Log) {
+        Ok(mut journal) => append_each(rt, &mut journal, count),
+        Err(_) => false,
     }
 }
 
@@ -65,17 +68,34 @@ fn append<D: Disk>(rt: &HostRuntime, journal: &mut Journal<D>) -> bool {
     }
 }
 
-fn start_all<H: Host>(rt: &HostRuntime, host: &mut H, dir: &str, count: u32) -> bool {
+fn read_all<H: Host>(rt: &HostRuntime, host: &mut H, dir: &str, count: u32) -> bool {
     for _ in 0..count {
-        if started(rt, host, dir).is_none() {
+        if !read(rt, host, dir) {
             return false;
         }
     }
     true
 }
 
-fn started<H: Host>(rt: &HostRuntime, host: &mut H, dir: &str) -> Option<Journal<H::Disk>> {
-    let disk = host.disk(rt.alloc(), dir, Part::Log).ok()?;
-    let (journal, _) = Journal::start(rt.alloc(), disk, Mark::Log).ok()?;
-    Some(journal)
+/// Opens the log, and reads its records to the end.
+fn read<H: Host>(rt: &HostRuntime, host: &mut H, dir: &str) -> bool {
+    let Ok(disk) = host.disk(rt.alloc(), dir, Part::Log) else {
+        return false;
+    };
+    match Journal::open(rt.alloc(), disk, Mark::Log) {
+        Ok(mut reading) => read_each(rt, &mut reading),
+        Err(_) => false,
+    }
+}
+
+fn read_each<D: Disk>(rt: &HostRuntime, reading: &mut Reading<D>) -> bool {
+    let mut payload = Vec::new(rt.alloc());
+    for _ in 0..u64::MAX {
+        match reading.next(&mut payload) {
+            Ok(Some(_)) => {}
+            Ok(None) => return true,
+            Err(_) => return false,
+        }
+    }
+    false
 }

@@ -4,3 +4,4 @@ pub mod Board
 pub mod Plays
 pub mod Calls
 pub mod Notes
+pub mod Patience

@@ -7,6 +7,7 @@ ghost use Rattle.std.specs.Prelude.{◌≡◌, ◌+◌, ◌<◌};
 
 use crate::beds::Beds;
 use crate::named::{Mailed, Named};
+use crate::patience::Patience;
 use crate::view::{Code, View};
 use atomic_table::{Table, TableRule};
 use std::alloc::Global;
@@ -53,6 +54,7 @@ impl<H: Named, S: Mailed + Named<Entry = H::Entry>> TableRule<SlotValue<H, S>, V
 pub struct Board<H: Named, S: Mailed + Named<Entry = H::Entry>> {
     pub(crate) table: Table<SlotValue<H, S>, View<Code>, Begun<H>, OneHistory<H, S>, Global>,
     pub(crate) beds: Beds,
+    pub(crate) patience: Patience,
     ghost sized: { (table.shared.table_id.words ≡ table.shared.key.sessions + 3) × (table.shared.table_id.slots ≡ table.shared.key.sessions + 1) × (table.shared.key.sessions < 2147483648) },
 }
 
@@ -64,9 +66,19 @@ impl<H: Named, S: Mailed + Named<Entry = H::Entry>> Board<H, S> {
         (self.table.slot_count() - 1) as u32
     }
 
-    /// Whether the ticket is the one after the ticket served.
-    pub fn is_next(&self, ticket: u64) -> bool {
-        self.table.shared.peek(1).checked_add(1) == Some(ticket)
+    /// How long seats that wait for a turn stay awake.
+    pub fn patience(&self) -> Patience {
+        self.patience
+    }
+
+    /// Whether the ticket is served, or was.
+    pub fn is_served(&self, ticket: u64) -> bool {
+        self.table.shared.peek(1) >= ticket
+    }
+
+    /// Whether the ticket is served, or so near in line that who waits for it stays awake.
+    pub fn is_near(&self, ticket: u64) -> bool {
+        ticket.wrapping_sub(self.table.shared.peek(1)) <= self.patience.places()
     }
 
     /// Says that who waits for the ticket is about to sleep. It has to look once more before it does.
@@ -74,15 +86,18 @@ impl<H: Named, S: Mailed + Named<Entry = H::Entry>> Board<H, S> {
         self.beds.take(ticket);
     }
 
-    /// Sleeps until the ticket is served, or is the next one. It may also return for no reason.
+    /// Sleeps until the ticket is served, or is near in line. It may also return for no reason.
     pub fn sleep<R: Wait>(&self, rt: &R, ticket: u64) {
         self.beds.sleep(rt, ticket);
     }
 
-    /// Wakes who sleeps for the ticket served, and who sleeps for the next one.
+    /// Wakes who sleeps for the ticket served, and who sleeps for one that is near in line.
     pub fn wake(&self) {
         let served = self.table.shared.peek(1);
         self.beds.wake(served);
         self.beds.wake(served.wrapping_add(1));
+        if self.patience.places() > 1 {
+            self.beds.wake(served.wrapping_add(2));
+        }
     }
 }

@@ -11,6 +11,7 @@ use crate::beds::Beds;
 use crate::board::{Begun, Board, SlotValue};
 use crate::mails::Mails;
 use crate::named::{Mailed, Named};
+use crate::patience::Patience;
 use crate::seat::BoardSeat;
 use atomic_table::{Closed, Refused, Table};
 use fb_memory::Memory;
@@ -104,12 +105,14 @@ fn clear<S: Drop>(mut closed: Closed<S, Global>)
 }
 
 impl<H: Named, S: Mailed + Named<Entry = H::Entry>> Board<H, S> {
-    /// A board of one history, with a mail slot for each snapshot, and its first seat. `basis` is that of the history.
+    /// A board of one history, with a mail slot for each snapshot, and its first seat. `basis` is that of the history, and seats
+    /// that wait stay awake as `patience` says.
     pub fn new(
         alloc: Global,
         home: H,
         basis: u32,
         mailed: Mails<S>,
+        patience: Patience,
     ) -> Result<(Board<H, S>, BoardSeat), BoardStop<H>>
         requires history { (basis + 1 ≡ length (H.entries home))
             × IsLawful H.follows (H.entries home) }
@@ -141,6 +144,7 @@ impl<H: Named, S: Mailed + Named<Entry = H::Entry>> Board<H, S> {
                 Board {
                     table,
                     beds: Beds::new(),
+                    patience,
                 },
                 BoardSeat {
                     number: u32::MAX,
@@ -168,7 +172,11 @@ impl<H: Named, S: Mailed + Named<Entry = H::Entry>> Board<H, S> {
         ensures whole { IsWhole (codes H.Entry.row.coded.code (H.entries result)) (H.authors result)
             (H.marks result) (view_of seat) }
     {
-        let Board { table, beds: _ } = self;
+        let Board {
+            table,
+            beds: _,
+            patience: _,
+        } = self;
         let BoardSeat {
             number: _,
             given: _,

@@ -10,6 +10,7 @@ mod mail_steps;
 mod mails;
 mod named;
 mod note;
+mod patience;
 mod plays;
 mod seat;
 mod steps;
@@ -24,6 +25,7 @@ pub use mail_steps::{
 pub use mails::Mails;
 pub use named::{Mailed, Named};
 pub use note::Note;
+pub use patience::Patience;
 pub use plays::{PickedHistory, PickedMarks, PickedOrigin};
 pub use seat::BoardSeat;
 pub use steps::{

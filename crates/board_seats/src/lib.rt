@@ -6,7 +6,7 @@ mod glances;
 mod seating;
 mod turns;
 
-pub use board_rule::{Board, BoardSeat, BoardStop, Held, Mailed, Mails, Named};
+pub use board_rule::{Board, BoardSeat, BoardStop, Held, Mailed, Mails, Named, Patience};
 pub use glances::glance;
 pub use seating::{Opened, Seated, gather, open};
-pub use turns::{add, end, end_seen, enter};
+pub use turns::{Meanwhile, add, end, end_seen, enter, enter_after};

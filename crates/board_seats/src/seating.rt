@@ -6,7 +6,9 @@ ghost use Rattle.board_rule.specs.Views.{worker, IsLawful, codes, starting, IsId
 ghost use Rattle.board_rule.specs.Calls.{view_of, board_of};
 ghost use Rattle.board_seats.specs.Seating.{AreNew, AreIdle, AreNoted, HasSeen};
 
-use board_rule::{Board, BoardSeat, BoardStop, Mailed, Mails, Named, step_join, step_split};
+use board_rule::{
+    Board, BoardSeat, BoardStop, Mailed, Mails, Named, Patience, step_join, step_split,
+};
 use std::alloc::Global;
 
 /// A board that was opened.
@@ -44,11 +46,13 @@ fn split_each<H: Named, S: Mailed + Named<Entry = H::Entry>>(
     seats
 }
 
-/// A board of the history of `home`, with a mail slot and a seat for each snapshot. Where memory runs out, `home` is handed back.
+/// A board of the history of `home`, with a mail slot and a seat for each snapshot. Seats that wait stay awake as `patience`
+/// says. Where memory runs out, `home` is handed back.
 pub fn open<H: Named, S: Mailed + Named<Entry = H::Entry>>(
     alloc: Global,
     home: H,
     mails: Mails<S>,
+    patience: Patience,
 ) -> Result<Opened<H, S>, BoardStop<H>>
     requires history { IsLawful H.follows (H.entries home) }
     requires home { (H.authors home ≡ []) × ((H.marks home).stop ≡ None) × H.sound home }
@@ -73,7 +77,7 @@ pub fn open<H: Named, S: Mailed + Named<Entry = H::Entry>>(
         return Err(BoardStop { home });
     };
     let basis = home.basis();
-    let (board, mut first) = Board::new(alloc, home, basis, mails)?;
+    let (board, mut first) = Board::new(alloc, home, basis, mails, patience)?;
     let seats = split_each(&board, &mut first, board.sessions(), room);
     Ok(Opened {
         board,

@@ -39,14 +39,51 @@ pub fn enter<H: Named, S: Mailed + Named<Entry = H::Entry>, R: Wait>(
     turn(board, rt, seat)
 }
 
+/// What somebody does who has drawn a ticket, before it waits for the turn. No clause speaks of it: it changes nothing of the board
+/// or of its seat, and whatever it leaves is a hint.
+pub trait Meanwhile {
+    fn pass(&mut self, ticket: u64);
+}
+
+/// As `enter`, with something to do in between.
+pub fn enter_after<H: Named, S: Mailed + Named<Entry = H::Entry>, R: Wait, M: Meanwhile>(
+    board: &Board<H, S>,
+    rt: &R,
+    seat: &mut BoardSeat,
+    meanwhile: &mut M,
+) -> Held<H>
+    requires seat { board_of seat.old ≡ board.now.table.shared.table_id }
+    requires idle { IsIdle (view_of seat.old) }
+    requires few { (view_of seat.old).draws < 4294967296 }
+    ensures seat { board_of seat.new ≡ board_of seat.old }
+    ensures entered { (t : ℕ)
+        × (view_of seat.new
+        ≡ entered H.Entry.row.coded.code (view_of seat.old) t (H.entries result.home)
+        (H.authors result.home) (H.marks result.home)) }
+    ensures holds { Holds H.Entry.row.coded.code (view_of seat.new) (H.entries result.home)
+        (H.authors result.home) }
+    ensures learns { (last : List H.Entry)
+        → Sees H.Entry.row.coded.code (view_of seat.old) last
+        → Learns H.follows (view_of seat.old) last (H.entries result.home) (H.authors result.home)
+        (H.marks result.home) }
+    ensures sound { H.sound result.home }
+    ensures origin { H.origin result.home ≡ H.origin board.now.table.shared.key.home.value }
+{
+    draw(board, seat);
+    if let Some(ticket) = seat.ticket() {
+        meanwhile.pass(ticket);
+    }
+    turn(board, rt, seat)
+}
+
 /// Adds an entry to the history, and mails a snapshot to each session: `held.home` stands for the history with it, and names
-/// this seat as its author.
+/// this seat as its author. What the mails replaced comes back, to be dropped after the turn.
 pub fn add<H: Named, S: Mailed + Named<Entry = H::Entry>>(
     board: &Board<H, S>,
     seat: &mut BoardSeat,
     held: &mut Held<H>,
     mails: Vec<S>,
-)
+) -> Vec<S>
     requires seat { board_of seat.old ≡ board.now.table.shared.table_id }
     requires entry { (l : List H.Entry)
         × (e : H.Entry)
@@ -62,6 +99,7 @@ pub fn add<H: Named, S: Mailed + Named<Entry = H::Entry>>(
     requires mails { All (λ s. S.entries s ≡ H.entries held.old.home) mails.items }
     ensures seat { board_of seat.new ≡ board_of seat.old }
     ensures held { held.new ≡ held.old }
+    ensures back { length result.items ≡ length mails.items }
     ensures gained { (t : ℕ)
         × (t + 1 ≡ length (H.entries held.old.home))
         × (view_of seat.new
@@ -74,7 +112,7 @@ pub fn add<H: Named, S: Mailed + Named<Entry = H::Entry>>(
     ensures tried { IsTried board.now.table.shared.key.sessions (view_of seat.new).tried }
 {
     commit(board, seat, held);
-    put_each(board, seat, held, mails);
+    put_each(board, seat, held, mails)
 }
 
 /// Ends the turn: the value goes back to its slot, and its marks are the named ones.

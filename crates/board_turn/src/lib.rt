@@ -4,4 +4,4 @@
 mod turns;
 
 pub use board_rule::{Board, BoardSeat, Held, Mailed, Mails, Named, step_join, step_split};
-pub use turns::{commit, count, draw, leave, turn};
+pub use turns::{come_near, commit, count, draw, leave, turn};

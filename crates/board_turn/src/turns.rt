@@ -15,12 +15,8 @@ use board_rule::{
 use std::hint::spin_loop;
 use std::sync::Wait;
 
-/// How often a seat looks before it sleeps. It takes a few microseconds.
+/// How often a seat looks in a round. It takes less than a microsecond on most machines, and a few on some.
 const LOOKS: u32 = 64;
-
-/// How many times over who is next in line does that. It outlasts most turns in memory, and is short beside what another thread may
-/// take of the processor, which the holder of the turn may be waiting for. So nobody yields to others either.
-const ROUNDS: u32 = 16;
 
 /// Draws a ticket for a turn.
 pub fn draw<H: Named, S: Mailed + Named<Entry = H::Entry>>(
@@ -78,19 +74,19 @@ fn comes_soon<H: Named, S: Mailed + Named<Entry = H::Entry>>(
     false
 }
 
-/// Whether the seat's turn is the next one.
-fn is_next<H: Named, S: Mailed + Named<Entry = H::Entry>>(
+/// Whether the seat's turn has come, or it is so near in line that it stays awake.
+fn is_near<H: Named, S: Mailed + Named<Entry = H::Entry>>(
     board: &Board<H, S>,
     seat: &BoardSeat,
 ) -> bool {
     match seat.ticket() {
-        Some(ticket) => board.is_next(ticket),
+        Some(ticket) => board.is_near(ticket),
         None => false,
     }
 }
 
-/// Looks for as long as it makes sense to stay awake, and says whether the turn has come. Who is next in line looks on, since a
-/// wake may take longer than a turn.
+/// Looks for as long as the board has patience, and says whether the turn has come. Who is near in line looks on, since a wake may
+/// take longer than a turn; all others sleep at once. Nobody yields the processor, which others would take for longer.
 fn comes_while_awake<H: Named, S: Mailed + Named<Entry = H::Entry>>(
     board: &Board<H, S>,
     seat: &mut BoardSeat,
@@ -104,12 +100,12 @@ fn comes_while_awake<H: Named, S: Mailed + Named<Entry = H::Entry>>(
         × Learned (AreLawful H.Entry.row.coded.code H.follows) (view_of seat.old) y)
         (view_of seat.new ≡ view_of seat.old) }
 {
-    for _ in 0..ROUNDS {
+    for _ in 0..board.patience().rounds() {
+        if !is_near(board, seat) {
+            return false;
+        }
         if comes_soon(board, seat) {
             return true;
-        }
-        if !is_next(board, seat) {
-            return false;
         }
     }
     false
@@ -143,6 +139,22 @@ fn wait_for_turn<H: Named, S: Mailed + Named<Entry = H::Entry>, R: Wait>(
         board.sleep(rt, ticket);
     }
     unreachable!()
+}
+
+/// Sleeps until the ticket is served, or is near in line. It may return sooner.
+pub fn come_near<H: Named, S: Mailed + Named<Entry = H::Entry>, R: Wait>(
+    board: &Board<H, S>,
+    rt: &R,
+    ticket: u64,
+) {
+    if board.is_near(ticket) {
+        return;
+    }
+    board.lie_down(ticket);
+    if board.is_near(ticket) {
+        return;
+    }
+    board.sleep(rt, ticket);
 }
 
 /// Waits for the turn of the drawn ticket, and takes the value that stands for the history. Its origin is that of the
@@ -202,8 +214,8 @@ pub fn commit<H: Named, S: Mailed + Named<Entry = H::Entry>>(
     step_commit(board, seat, &held.home);
 }
 
-/// Ends the turn: the value, whose origin no turn changes, goes back to its slot, and its marks are the named ones. Wakes who is served now, and who is
-/// next.
+/// Ends the turn: the value, whose origin no turn changes, goes back to its slot, and its marks are the named ones. Wakes who is served now, and who
+/// is near in line.
 pub fn leave<H: Named, S: Mailed + Named<Entry = H::Entry>>(
     board: &Board<H, S>,
     seat: &mut BoardSeat,

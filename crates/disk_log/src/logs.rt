@@ -1,6 +1,7 @@
 //! The log on a disk.
-ghost use Rattle.std.specs.Prelude.{◌≡◌, ◌<◌, ◌+◌, ◌^◌, ℕ, List, length};
+ghost use Rattle.std.specs.Prelude.{◌≡◌, ◌<◌, ◌+◌, ◌^◌, ◌++◌, [], ◌∷◌, ℕ, List, length, OnOk, OnErr};
 ghost use Rattle.fb_values.specs.declared.facts.Entry.{Entry};
+ghost use Rattle.fb_model.specs.Lawful.{IsLawfulAfter};
 ghost use Rattle.disk_model.specs.Journal.{log_mark, opened};
 ghost use Rattle.log_model.specs.Log.{LogStands};
 ghost use Rattle.log_model.specs.Storable.{IsPayloadOf};
@@ -59,6 +60,24 @@ impl<D: Disk> DiskLog<D> {
     {
         self.journal.give_back()
     }
+
+    /// Adds a record to the journal, and lays the one that is likely to come next behind it, if there is one.
+    fn append(&mut self, made: &Framed, next: Option<Framed>) -> Result<(), Failed>
+        ensures kept { OnOk result ((begun : _) (h : List Entry) (entry : Entry)
+            → IsPayloadOf entry made.now → IsLawfulAfter h entry
+            → KeepsHistory D.bytes D.images D.faults D.moment D.images_since begun h self.old
+            → KeepsHistory D.bytes D.images D.faults D.moment D.images_since begun
+            (h ++ entry ∷ []) self.new) }
+        ensures broke { OnErr result ((begun : _) (h : List Entry) (entry : Entry)
+            → IsPayloadOf entry made.now → IsLawfulAfter h entry
+            → KeepsHistory D.bytes D.images D.faults D.moment D.images_since begun h self.old
+            → BrokeAt D.bytes D.images D.faults D.moment D.images_since begun h entry self.new) }
+    {
+        match self.journal.append_beside(made, next) {
+            Ok(()) => Ok(()),
+            Err(_) => Err(Failed),
+        }
+    }
 }
 
 impl<D: Disk> Log for DiskLog<D> {
@@ -72,16 +91,17 @@ impl<D: Disk> Log for DiskLog<D> {
 
     ghost broke = { BrokeAt D.bytes D.images D.faults D.moment D.images_since };
 
-    fn record(&self, alloc: Global, entry: &Entry) -> Result<Framed, Memory> {
+    fn record(alloc: Global, entry: &Entry) -> Result<Framed, Memory> {
         entries_of_lawful_histories_are_storable();
         let payload = entry_bytes(alloc, entry)?;
         frame(alloc, &payload)
     }
 
     fn add(&mut self, made: &Framed) -> Result<(), Failed> {
-        match self.journal.append(made) {
-            Ok(()) => Ok(()),
-            Err(_) => Err(Failed),
-        }
+        self.append(made, None)
+    }
+
+    fn add_beside(&mut self, made: &Framed, next: Framed) -> Result<(), Failed> {
+        self.append(made, Some(next))
     }
 }

@@ -13,6 +13,6 @@ mod token;
 
 pub use construct::Frames;
 pub use edn_form::{Edn, Items, Pairs, Text};
-pub use edn_token::{What, is_keyword, is_symbol};
+pub use edn_token::What;
 pub use fault::EdnFault;
 pub use read::{read_form, read_form_in};

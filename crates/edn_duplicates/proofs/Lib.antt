@@ -1,5 +1,4 @@
 pub mod Codes
-pub mod Firsts
 pub mod Likeness
 pub mod Lists
 pub mod Orders

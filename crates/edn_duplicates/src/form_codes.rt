@@ -39,7 +39,7 @@ impl FormCodes {
 
     /// Adds a form, by its code, and answers whether none alike to it was there before. After an error some forms may
     /// be missing.
-    pub fn say(&mut self, code: Vec<CodeToken>) -> Result<bool, Memory>
+    fn say(&mut self, code: Vec<CodeToken>) -> Result<bool, Memory>
         ensures fresh { (fs : model.Forms) (f : model.Form) → HasCodesOf fs self.old
             → IsCode token_cmp f code.items → IsDistinctInside f
             → IfOk result (λ fresh. fresh ≡ not (any (alike f) fs)) }

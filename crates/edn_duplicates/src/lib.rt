@@ -5,11 +5,9 @@ pub mod code;
 mod coded;
 mod form_codes;
 pub mod laws;
-mod search;
 mod spelling;
 mod token;
 
 pub use form_codes::FormCodes;
-pub use search::{first_duplicate, first_key_twice};
 pub use spelling::Spelling;
 pub use token::CodeToken;

@@ -14,7 +14,6 @@ mod token;
 
 pub use characters::read_token;
 pub use gap::skip_blanks;
-pub use name::{is_keyword, is_symbol};
 pub use number::magnitude;
 pub use string::{StringStop, read_string};
 pub use token::{Token, What, judge, keyword_name};

@@ -4,38 +4,10 @@ ghost use Rattle.std.specs.List.{list_all};
 ghost use Rattle.edn_model.specs.Bytes as kinds;
 ghost use Rattle.edn_model.specs.Bytes.{slash, begins};
 ghost use Rattle.edn_model.specs.Tokens as tokens;
-ghost use Rattle.edn_model.specs.Tokens.{IsName, Joined, IsKeywordName, IsKeyword, IsReserved, IsSymbol};
+ghost use Rattle.edn_model.specs.Tokens.{IsName, Joined, IsKeywordName};
 ghost use Rattle.edn_token.specs.Names.{IsSymbolOrWord};
 
 use crate::bytes::{is_name_byte, split_name};
-use std::str;
-
-/// Whether a colon and this text are a keyword.
-pub fn is_keyword(text: &[u8]) -> bool
-    ensures { IsTrue result ↔ IsKeyword text.now }
-{
-    match str::from_utf8(text) {
-        Err(_) => false,
-        Ok(_) => are_keyword_names(text),
-    }
-}
-
-/// Whether the text is a symbol.
-pub fn is_symbol(text: &[u8]) -> bool
-    ensures { IsTrue result ↔ IsSymbol text.now }
-{
-    match str::from_utf8(text) {
-        Err(_) => false,
-        Ok(s) => !is_reserved(s) && is_symbol_or_word(text),
-    }
-}
-
-/// Whether the text is one of the words that are tokens of their own.
-fn is_reserved(s: &str) -> bool
-    ensures { IsTrue result ↔ IsReserved s.now }
-{
-    s == "nil" || s == "true" || s == "false"
-}
 
 /// Whether the bytes are one name of a keyword, or two joined by a slash.
 pub(crate) fn are_keyword_names(text: &[u8]) -> bool

@@ -3,7 +3,7 @@ use Rattle.std.proofs.Common.{◌≡◌, inl, inr, ℕ, List, [], Option}
 use Rattle.fb_values.specs.declared.facts.Entry.{Entry}
 use Rattle.disk_model.specs.Disk.{IfKnown}
 use Rattle.disk_model.specs.Journal.{log_mark, JournalStands}
-use Rattle.fb_journal.specs.Starts.{IsWhyNot, CountsStart}
+use Rattle.fb_journal.specs.Starts.{CountsStart}
 use Rattle.fb_journal.specs.Readings.{IsFirstFault}
 use Rattle.fb_journal.specs.declared.starts.StartFault.{StartFault}
 use Rattle.fb_journal.specs.declared.starts.StartFault.TheVariants.{Disk as StartDisk, BadLog as StartBadLog, Memory as StartMemory}
@@ -14,13 +14,7 @@ use Rattle.fb_backup.specs.Backups.{fault_of, IsBackupCause, IsOutside, IsRefusa
 use Rattle.fb_backup.specs.Comparing.{SaysFault}
 
 module _ (told : Option (List ℕ)) (h : List Entry) (records : List (List ℕ)) where
-  -- of the start
-  pub start-cause : (start : StartFault) → IsWhyNot log_mark told start records → IfKnown told (IsBackupCause h (fault_of start))
-  start-cause StartDisk why = λ file is. tt
-  start-cause StartMemory why = λ file is. tt
-  start-cause (StartBadLog nth at) why = λ file is. record { records = records; fault = inl (why file is) }
-
-  -- of the journal, where its records are read
+  -- of the journal, where it is opened and its records are read
   pub reading-cause : (start : StartFault) → IsFirstFault log_mark told records start → IfKnown told (IsBackupCause h (fault_of start))
   reading-cause StartDisk first = λ file is. tt
   reading-cause StartMemory first = λ file is. tt

@@ -55,7 +55,7 @@ fn append<D: Disk>(alloc: Global, entry: &Entry, log: &mut DiskLog<D>) -> Result
         → HasStopped D.bytes D.images D.faults D.moment D.images_since begun h entry.now fault
         log.new) }
 {
-    let record = log.record(alloc, entry)?;
+    let record = DiskLog::<D>::record(alloc, entry)?;
     match log.add(&record) {
         Ok(()) => Ok(()),
         Err(Failed) => Err(BackupFault::Disk),

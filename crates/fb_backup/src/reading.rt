@@ -58,7 +58,7 @@ pub(crate) fn open_target<D: Disk>(
 {
     let mut reading = match Journal::open(alloc, disk, Mark::Log) {
         Ok(reading) => reading,
-        Err(StartStop { fault, disk, .. }) => {
+        Err(StartStop { fault, disk }) => {
             let fault = BackupFault::from(fault);
             return Err(BackupStop { fault, log: disk });
         }

@@ -32,9 +32,9 @@ module _ {L : Type 0} (keeps : L → List Entry → L → Type 0)
     (broke : L → List Entry → Entry → L → Type 0) where
   -- The log keeps the history;
   -- or it failed at the entry that was to come next, that of the torn transaction.
-  abbrev pub LogStands : L → List Entry → L → Option Stop → Option Draft → Type 0
-  LogStands begun entries log None torn = (torn ≡ None) × keeps begun entries log
-  LogStands begun entries log (Some stop) torn =
+  abbrev pub GoesWithLog : L → List Entry → L → Option Stop → Option Draft → Type 0
+  GoesWithLog begun entries log None torn = (torn ≡ None) × keeps begun entries log
+  GoesWithLog begun entries log (Some stop) torn =
       (stop.at ≡ length entries)
       × ((draft : Draft)
       × (torn ≡ Some draft)
@@ -54,5 +54,5 @@ module _ {L R : Type 0} where
   abbrev pub IsSoundHome : (L → List Entry → L → Type 0) → (L → List Entry → Entry → L → Type 0)
       → Home L R → Type 0
   IsSoundHome keeps broke home =
-      LogStands keeps broke home.begun.value home.core.snapshot.entries home.log home.stop home.torn
+      GoesWithLog keeps broke home.begun.value home.core.snapshot.entries home.log home.stop home.torn
       × IsTornBy home.core.authors home.stop home.torn

@@ -1,4 +1,6 @@
 //! The bell by which sessions ask the worker for a merge. Its use is no step of the board.
+use std::sync::atomic::Ordering::SeqCst;
+use std::sync::atomic::{AtomicBool, AtomicU64};
 use std::sync::{Condvar, Mutex, Wait};
 
 /// Why the worker woke.
@@ -10,56 +12,66 @@ pub enum Bell {
     Shut,
 }
 
-#[derive(Clone, Copy)]
-struct Signal {
-    rung: bool,
-    shut: bool,
-}
-
 /// It is rung once until it is heard, and shut for good.
 #[derive(Drop)]
 pub(crate) struct Doorbell {
-    signal: Mutex<Signal>,
+    /// Rung and not yet heard. It changes under the lock alone, so that no ring falls between the worker's look and its sleep.
+    rung: AtomicBool,
+    shut: Mutex<bool>,
     changed: Condvar,
+    /// From so many live datoms on the worker wants to hear it.
+    from: AtomicU64,
 }
 
 impl Doorbell {
     pub(crate) fn new() -> Doorbell {
         Doorbell {
-            signal: Mutex::new(Signal {
-                rung: false,
-                shut: false,
-            }),
+            rung: AtomicBool::new(false),
+            shut: Mutex::new(false),
             changed: Condvar::new(),
+            from: AtomicU64::new(0),
         }
     }
 
+    /// A bell that has been rung is left alone: whoever hears it begins after this look, and so finds what it is rung for.
     pub(crate) fn ring<R: Wait>(&self, rt: &R) {
-        let mut signal = self.signal.lock(rt);
-        signal.rung = true;
-        drop(signal);
+        if self.rung.load(SeqCst) {
+            return;
+        }
+        let shut = self.shut.lock(rt);
+        self.rung.store(true, SeqCst);
+        drop(shut);
         self.changed.notify_one();
     }
 
+    /// Whether it is to be rung where so many datoms are live. Whoever looks while the worker changes its mind may ring in vain, or leave
+    /// it to the next one.
+    pub(crate) fn is_wanted(&self, live: u64) -> bool {
+        live >= self.from.load(SeqCst)
+    }
+
+    pub(crate) fn ring_from(&self, live: u64) {
+        self.from.store(live, SeqCst);
+    }
+
     pub(crate) fn shut<R: Wait>(&self, rt: &R) {
-        let mut signal = self.signal.lock(rt);
-        signal.shut = true;
-        drop(signal);
+        let mut shut = self.shut.lock(rt);
+        *shut = true;
+        drop(shut);
         self.changed.notify_one();
     }
 
     /// Sleeps until it is rung or shut.
     pub(crate) fn wait<R: Wait>(&self, rt: &R) -> Bell {
-        let mut signal = self.signal.lock(rt);
+        let mut shut = self.shut.lock(rt);
         for _ in rt.forever() {
-            if signal.shut {
+            if *shut {
                 return Bell::Shut;
             }
-            if signal.rung {
-                signal.rung = false;
+            if self.rung.swap(false, SeqCst) {
                 return Bell::Rung;
             }
-            signal = self.changed.wait(rt, signal);
+            shut = self.changed.wait(rt, shut);
         }
         unreachable!()
     }

@@ -6,7 +6,7 @@ ghost use Rattle.fb_core.specs.Cores.{CoreStands};
 ghost use Rattle.board_rule.specs.Views.{StartsWith};
 ghost use Rattle.board_rule.specs.Calls.{view_of};
 ghost use Rattle.fb_conn.specs.declared.seats.Seat.{Seat};
-ghost use Rattle.fb_conn.specs.Homes.{LogStands, IsTornBy};
+ghost use Rattle.fb_conn.specs.Homes.{GoesWithLog, IsTornBy};
 ghost use Rattle.fb_conn.specs.Seats.{table_of, begun_of, IsAtRest, IsWorkerOf, state_of};
 ghost use Rattle.fb_conn.specs.Closing.{IsTakenIn};
 
@@ -43,7 +43,7 @@ impl<L: Log> Conn<L> {
             → IsTakenIn result.core (view_of worker.board).start result.stopped k (state_of seat) }
         ensures last { StartsWith result.core.snapshot.entries worker.last.entries }
         ensures covered { result.core.snapshot.covered ≡ (view_of worker.board).covered }
-        ensures log { LogStands L.keeps L.broke
+        ensures log { GoesWithLog L.keeps L.broke
             (begun_of self) result.core.snapshot.entries
             result.log result.stopped result.torn }
         ensures teller { IsTornBy result.core.authors result.stopped result.torn }

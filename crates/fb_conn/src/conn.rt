@@ -12,7 +12,7 @@ use crate::bell::{Bell, Doorbell};
 use crate::home::Home;
 use crate::letters::{Letter, letters_of};
 use crate::seats::Seat;
-use board_seats::{Board, BoardSeat, BoardStop, Mails, Opened, open};
+use board_seats::{Board, BoardSeat, BoardStop, Mails, Opened, Patience, open};
 use fb_core::Core;
 use fb_log::Log;
 use fb_memory::Memory;
@@ -105,14 +105,15 @@ fn seats_of(boards: Vec<BoardSeat>, lasts: Vec<Snapshot>, room: Vec<Seat>) -> Ve
 }
 
 impl<L: Log> Conn<L> {
-    /// Opens a database of 1 to 16 sessions. Merges are due from `merge_at` live datoms on. All memory is taken here: where it runs
-    /// out, what was handed in is handed back.
+    /// Opens a database of 1 to 16 sessions. Merges are due from `merge_at` live datoms on, and who waits for a turn stays awake as
+    /// `patience` says. All memory is taken here: where it runs out, what was handed in is handed back.
     pub fn new(
         alloc: Global,
         core: Core,
         log: L,
         sessions: u32,
         merge_at: u64,
+        patience: Patience,
     ) -> Result<Made<L>, ConnStop<L>>
         requires few { (0 < sessions) × (sessions ≤ 16) }
         requires fresh { (core.authors ≡ []) × L.keeps log core.snapshot.entries log }
@@ -152,7 +153,7 @@ impl<L: Log> Conn<L> {
             torn: None,
             begun,
         };
-        match open(alloc, home, Mails::of(mails)) {
+        match open(alloc, home, Mails::of(mails), patience) {
             Ok(
                 Opened {
                     board,
@@ -176,6 +177,11 @@ impl<L: Log> Conn<L> {
     /// Asks the worker for a merge.
     pub fn ring<R: Wait>(&self, rt: &R) {
         self.bell.ring(rt);
+    }
+
+    /// Says from how many live datoms on the worker wants to be asked, where a merge is due.
+    pub fn ring_from(&self, live: u64) {
+        self.bell.ring_from(live);
     }
 
     /// Tells the worker that no session is left.

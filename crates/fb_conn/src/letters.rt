@@ -67,9 +67,9 @@ pub(crate) fn letters_of(
     ensures letters { IfOk result
         (λ letters. All (λ letter. letter.one.entries ≡ snapshot.now.entries) letters.items) }
 {
-    let mut letters = Vec::new(alloc);
+    let mut letters = Vec::with_capacity(alloc, sessions as usize)?;
     for _ in 0..sessions {
-        letters.push(Letter::of(snapshot)?)?;
+        letters.push_reserved(Letter::of(snapshot)?);
     }
     Ok(letters)
 }

@@ -15,6 +15,7 @@ mod seats;
 mod turns;
 
 pub use bell::Bell;
+pub use board_seats::Patience;
 pub use closing::Closed;
 pub use conn::{Conn, ConnStop, Made};
 pub use home::Stop;

@@ -46,7 +46,7 @@ impl<L: Log> Conn<L> {
         let before = Letter::of(home.core.snapshot())?;
         let after = Letter::of(draft.after())?;
         let mails = letters_of(self.alloc, draft.after(), self.board.sessions())?;
-        let made = home.log.record(self.alloc, draft.entry())?;
+        let made = L::record(self.alloc, draft.entry())?;
         Ok(Ready {
             made,
             before,
@@ -119,9 +119,9 @@ impl<L: Log> Conn<L> {
         let t = one.basis();
         let instant = draft.entry().instant;
         let tempids = draft.take_tempids();
-        // It is dropped after the turn.
+        // Both are dropped after the turn.
         let _before = held.home.core.accept(draft);
-        add(&self.board, &mut seat.board, &mut held, mails);
+        let _replaced = add(&self.board, &mut seat.board, &mut held, mails);
         end(&self.board, &mut seat.board, held);
         seat.last = one;
         Receipt {

@@ -49,7 +49,8 @@ impl<L: Log> Conn<L> {
             (form_of asked.now) (state_of seat.old) (state_of seat.new)) }
     {
         let receipt = self.decide_in_turn(rt, seat, clock, guard, asked, reply)?;
-        if self.due(&receipt.snapshot) {
+        let latest = &receipt.snapshot;
+        if self.due(latest) && self.bell.is_wanted(latest.live_len()) {
             self.ring(rt);
         }
         Ok(receipt)

@@ -121,17 +121,17 @@ impl Core {
         })
     }
 
-    /// The draft's entry is the last one from now on. It takes no memory. The value before is given back, to be dropped
-    /// where nobody waits.
-    pub fn accept(&mut self, draft: Draft) -> Snapshot
+    /// The draft's entry is the last one from now on. It takes no memory. What it replaces is given back, to be dropped where
+    /// nobody waits.
+    pub fn accept(&mut self, draft: Draft) -> CoreParts
         requires { (author : ℕ) × IsDraftOf self.old author draft }
         ensures core { self.new ≡ record { snapshot = draft.after; authors = draft.authors } }
-        ensures before { result ≡ self.old.snapshot }
+        ensures before { result ≡ self.old }
     {
         let after = CoreParts {
             snapshot: draft.after,
             authors: draft.authors,
         };
-        mem::replace(&mut self.parts, after).snapshot
+        mem::replace(&mut self.parts, after)
     }
 }

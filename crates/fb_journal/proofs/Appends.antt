@@ -5,15 +5,32 @@ use Rattle.disk_model.specs.Disk.{written, Torn, IfKnown, LeavesOnly}
 use Rattle.disk_model.specs.Journal.{opened, framed, record_of, Holds}
 use Rattle.disk_model.proofs.Journals.{staged, appended, torn_behind, torn_gate, written_behind, written_gate, holds-appended, stands-holds}
 use Rattle.disk_model.proofs.Journals.{opened-push}
+use Rattle.disk_model.proofs.Calls.{torn-written}
 use Rattle.disk_model.proofs.Moments.{weakened}
 use Rattle.fb_journal.specs.Journals.{IsBeforeOrAfter}
+use Rattle.fb_journal.specs.Laying.{opened_beside, TornOpening}
 use Rattle.fb_journal.specs.Marks.{mark_bytes}
 use Rattle.fb_journal.specs.declared.marks.Mark.{Mark}
 use Rattle.fb_journal.specs.declared.marks.Mark.TheVariants.{Log, Segments}
+use Rattle.fb_journal.proofs.Laying.{holds-past}
 
 pub length-mark_bytes : (mark : Mark) → length (mark_bytes mark) ≡ 15
 length-mark_bytes Log = refl
 length-mark_bytes Segments = refl
+
+-- the next gate
+pub gate-added : (mark : List ℕ) (records : List (List ℕ)) (payload : List ℕ) (gate : ℕ) (piece : List ℕ) → piece ≡ record_of payload
+    → gate ≡ length mark + length (opened records)
+    → gate + length piece ≡ length mark + length (opened (records ++ payload ∷ []))
+gate-added mark records payload gate piece is place =
+    omega (
+      arith,
+      place,
+      ap length is,
+      ap length (opened-push records payload),
+      length-append (opened records) (1 ∷ framed payload),
+      length-append (framed payload) (0 ∷ []),
+    )
 
 module _ (mark : List ℕ) (records : List (List ℕ)) (payload : List ℕ) (gate : ℕ) (piece file : List ℕ) (fifteen : length mark ≡ 15)
     (is : piece ≡ record_of payload) (fits : length payload < 2 ^ 64) (place : gate ≡ length mark + length (opened records))
@@ -33,53 +50,58 @@ module _ (mark : List ℕ) (records : List (List ℕ)) (payload : List ℕ) (gat
       (torn_behind mark records file holds (length piece) image (subst (λ (n : ℕ). Torn n (length piece) file image) end torn)))
 
   -- the gate
-  pub stands-gate : (image : List ℕ) → Torn gate 1 (written (gate + 1) piece file) image → IsBeforeOrAfter mark records payload image
-  stands-gate image torn =
-      let at : Torn (length mark + length (opened records)) 1 (staged (mark ++ opened records) holds.gate payload holds.rest) image =
-      subst (λ (n : ℕ). Torn n 1 (staged (mark ++ opened records) holds.gate payload holds.rest) image) place
-      (subst (λ (l : List ℕ). Torn gate 1 l image) behind torn) in
+  opens : (image : List ℕ) → Torn gate 1 (written (gate + 1) piece file) image
+      → Holds mark records image ⊎ Holds mark (records ++ payload ∷ []) image
+  opens image torn =
+      torn_gate mark records holds.gate payload holds.rest image
+      (subst (λ (n : ℕ). Torn n 1 (staged (mark ++ opened records) holds.gate payload holds.rest) image) place
+      (subst (λ (l : List ℕ). Torn gate 1 l image) behind torn)) holds.lengths fits
+
+  -- the record that follows the next gate
+  next_place : gate + 1 + length piece ≡ length mark + length (opened (records ++ payload ∷ [])) + 1
+  next_place = omega (arith, gate-added mark records payload gate piece is place)
+
+  -- the gate, and what is laid behind the next one under the same sync
+  pub stands-opening : (n : ℕ) (image : List ℕ) → TornOpening gate (gate + 1 + length piece) n (written (gate + 1) piece file) image
+      → IsBeforeOrAfter mark records payload image
+  stands-opening n image torn =
+      let mid : List ℕ = torn.0 in
       ⊎_elim
-      (λ before. inl (stands-holds mark records image fifteen before))
-      (λ after. inr (stands-holds mark (records ++ payload ∷ []) image fifteen after))
-      (torn_gate mark records holds.gate payload holds.rest image at holds.lengths fits)
+      (λ before. inl (stands-holds mark records image fifteen
+      (holds-past mark records mid before (gate + 1 + length piece) n (omega (arith, place)) image torn.2)))
+      (λ after. inr (stands-holds mark (records ++ payload ∷ []) image fifteen
+      (torn_behind mark (records ++ payload ∷ []) mid after n image (subst (λ (k : ℕ). Torn k n mid image) next_place torn.2))))
+      (opens mid torn.1)
 
   -- both writes
-  pub run-added : {D : Type 0} (moment : D → ℕ) (since : D → ℕ → List ℕ → Type 0) (old new : D)
-      → LeavesOnly moment since old new
-      (λ image. Torn (gate + 1) (length piece) file image ⊎ Torn gate 1 (written (gate + 1) piece file) image)
+  pub run-added : {D : Type 0} (moment : D → ℕ) (since : D → ℕ → List ℕ → Type 0) (old new : D) (n : ℕ)
+      → LeavesOnly moment since old new (λ image. Torn (gate + 1) (length piece) file image
+      ⊎ TornOpening gate (gate + 1 + length piece) n (written (gate + 1) piece file) image)
       → LeavesOnly moment since old new (IsBeforeOrAfter mark records payload)
-  run-added moment since old new run =
-      weakened moment since old new _ _ run (λ image torn. ⊎_elim (stands-behind image) (stands-gate image) torn)
+  run-added moment since old new n run =
+      weakened moment since old new _ _ run (λ image torn. ⊎_elim (stands-behind image) (stands-opening n image) torn)
 
-  pub holds-added : Holds mark (records ++ payload ∷ []) (written gate (1 ∷ []) (written (gate + 1) piece file))
-  holds-added =
-      let whole : written gate (1 ∷ []) (written (gate + 1) piece file) ≡ appended (mark ++ opened records) payload holds.rest =
+  pub holds-added : (next : List ℕ) → Holds mark (records ++ payload ∷ []) (opened_beside gate piece next file)
+  holds-added next =
+      let after : List ℕ = written gate (1 ∷ []) (written (gate + 1) piece file) in
+      let whole : after ≡ appended (mark ++ opened records) payload holds.rest =
       ap (λ (l : List ℕ). written gate (1 ∷ []) l) behind
       ∙ ap (λ (n : ℕ). written n (1 ∷ []) (staged (mark ++ opened records) holds.gate payload holds.rest)) place
       ∙ written_gate mark records holds.gate payload holds.rest in
-      subst (Holds mark (records ++ payload ∷ [])) (sym whole) (holds-appended mark records payload holds.rest holds.lengths fits)
+      let held : Holds mark (records ++ payload ∷ []) after =
+      subst (Holds mark (records ++ payload ∷ [])) (sym whole) (holds-appended mark records payload holds.rest holds.lengths fits) in
+      torn_behind mark (records ++ payload ∷ []) after held (length next) (opened_beside gate piece next file)
+      (subst (λ (k : ℕ). Torn k (length next) after (opened_beside gate piece next file)) next_place
+      (torn-written (gate + 1 + length piece) next after))
 
 -- where the disk tells its bytes afterwards, it did before
-pub told-added : (told told' : Option (List ℕ)) (mark : List ℕ) (records : List (List ℕ)) (payload : List ℕ) (gate : ℕ) (piece : List ℕ)
-    → told' ≡ option_map (λ file. written gate (1 ∷ []) (written (gate + 1) piece file)) told
+pub told-added : (told told' : Option (List ℕ)) (mark : List ℕ) (records : List (List ℕ)) (payload : List ℕ) (gate : ℕ)
+    (piece next : List ℕ)
+    → told' ≡ option_map (opened_beside gate piece next) told
     → length mark ≡ 15 → piece ≡ record_of payload → length payload < 2 ^ 64 → gate ≡ length mark + length (opened records)
     → IfKnown told (λ file. Holds mark records file) → IfKnown told' (λ file. Holds mark (records ++ payload ∷ []) file)
-told-added None told' mark records payload gate piece same fifteen is fits place holds = λ file told. absurd (cc)
-told-added (Some before) told' mark records payload gate piece same fifteen is fits place holds = λ file told.
-    let whole : written gate (1 ∷ []) (written (gate + 1) piece before) ≡ file = cc in
+told-added None told' mark records payload gate piece next same fifteen is fits place holds = λ file told. absurd (cc)
+told-added (Some before) told' mark records payload gate piece next same fifteen is fits place holds = λ file told.
+    let whole : opened_beside gate piece next before ≡ file = cc in
     subst (Holds mark (records ++ payload ∷ [])) whole
-    (holds-added mark records payload gate piece before fifteen is fits place (holds before refl))
-
--- the next gate
-pub gate-added : (mark : List ℕ) (records : List (List ℕ)) (payload : List ℕ) (gate : ℕ) (piece : List ℕ) → piece ≡ record_of payload
-    → gate ≡ length mark + length (opened records)
-    → gate + length piece ≡ length mark + length (opened (records ++ payload ∷ []))
-gate-added mark records payload gate piece is place =
-    omega (
-      arith,
-      place,
-      ap length is,
-      ap length (opened-push records payload),
-      length-append (opened records) (1 ∷ framed payload),
-      length-append (framed payload) (0 ∷ []),
-    )
+    (holds-added mark records payload gate piece before fifteen is fits place (holds before refl) next)

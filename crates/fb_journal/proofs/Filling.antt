@@ -1,6 +1,6 @@
 -- A buffer that is filled with a file from its front.
 use Rattle.std.proofs.Common.{◌≡◌, ◌+◌, ◌≤◌, ℕ, List, ◌++◌, length, take, drop, sym, ◌∙◌, ap, arith, length-take}
-use Rattle.std.proofs.lemmas.List.{take-append-le, take_at, take_all}
+use Rattle.std.proofs.lemmas.List.{take-append-le}
 use Rattle.std.proofs.Math.Seq.{take-add, take-append-add}
 
 pub filled-more : (buf part behind file : List ℕ) (at count : ℕ) → at ≤ length buf → take at buf ≡ take at file → count ≤ length part
@@ -13,12 +13,3 @@ filled-more buf part behind file at count within so_far fits more =
     ∙ ap (λ (l : List ℕ). take at buf ++ l) (take-append-le count part behind fits ∙ more)
     ∙ ap (λ (l : List ℕ). l ++ take count (drop at file)) so_far
     ∙ sym (take-add at count file)
-
--- a buffer that was filled whole and is cut to what was filled
-pub filled-whole : (count size : ℕ) (now was file items : List ℕ) → items ≡ take count (take size (now ++ drop (length now) was))
-    → size ≡ length file → count ≡ length file → now ≡ file → items ≡ file
-filled-whole count size now was file items is long all same =
-    is
-    ∙ ap (λ (l : List ℕ). take count l) (take_at now (drop (length now) was) size (omega (arith, long, ap length same)))
-    ∙ take_all count now (omega (arith, all, ap length same))
-    ∙ same

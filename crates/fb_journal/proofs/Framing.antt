@@ -15,6 +15,10 @@ payload_in-record_of payload = take_at payload (0 ∷ []) (length (record_of pay
 pub payload_in-bytes : (bytes payload : List ℕ) → bytes ≡ record_of payload → payload_in bytes ≡ payload
 payload_in-bytes bytes payload is = ap payload_in is ∙ payload_in-record_of payload
 
+-- two records of the same bytes have one payload
+pub record-same : (one other : List ℕ) → record_of one ≡ record_of other → one ≡ other
+record-same one other same = sym (payload_in-record_of one) ∙ payload_in-bytes (record_of one) other same
+
 -- bytes that are a record are the record of their payload
 pub record_of-payload_in : (bytes payload : List ℕ) → bytes ≡ record_of payload → bytes ≡ record_of (payload_in bytes)
 record_of-payload_in bytes payload is = is ∙ ap record_of (sym (payload_in-bytes bytes payload is))

@@ -3,6 +3,7 @@ pub mod Filling
 pub mod Framing
 pub mod GoingOn
 pub mod GoingOver
+pub mod Laying
 pub mod Outcomes
 pub mod Passing
 pub mod Showing

@@ -1,9 +1,8 @@
 pub mod Frames
 pub mod Gates
 pub mod Journals
+pub mod Laying
 pub mod Marks
-pub mod Payloads
 pub mod Readings
 pub mod Starts
-pub mod Walks
 pub mod Windows

@@ -3,10 +3,12 @@ ghost use Rattle.std.specs.Prelude.{◌≡◌, ◌≤◌, ◌-◌, ◌++◌, len
 ghost use Rattle.std.specs.Int.{w64, to_be_bytes};
 ghost use Rattle.disk_model.specs.Journal.{record_of};
 
-use crate::records::LENGTH;
 use fb_memory::Memory;
 use std::alloc::Global;
 use std::marker::Model;
+
+/// The bytes of a payload's length.
+pub(crate) const LENGTH: usize = 8;
 
 /// What a record takes beside its payload: the length in front, and the gate after.
 const AROUND: usize = 9;

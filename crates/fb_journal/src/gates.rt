@@ -6,9 +6,12 @@ ghost use Rattle.disk_model.specs.Disk.{IfKnown};
 ghost use Rattle.fb_journal.specs.Gates.{IsAheadAt, IsAhead, HasRoom};
 ghost use Rattle.fb_journal.specs.Windows.{Shows, OnlyReads};
 
-use crate::records::{LENGTH, OPEN};
+use crate::frames::LENGTH;
 use crate::windows::Window;
 use fb_disk::{Disk, Failed};
+
+/// The one byte at which a gate is open.
+pub(crate) const OPEN: u8 = 1;
 
 #[derive(Clone, Copy)]
 pub(crate) enum Ahead {

@@ -2,8 +2,8 @@
 ghost use Rattle.std.specs.Prelude.{◌≡◌, ◌≤◌, ◌<◌, ℕ, List, [], length, take, Some, IfOk, IfErr, MatchResult};
 ghost use Rattle.disk_model.specs.Disk.{Only, Within, IfKnown, LeavesOnly};
 ghost use Rattle.fb_journal.specs.Marks.{mark_bytes};
-ghost use Rattle.fb_journal.specs.Readings.{IsBegun, LeavesBegun};
-ghost use Rattle.fb_journal.specs.Starts.{CountsStart, IsWhyNot};
+ghost use Rattle.fb_journal.specs.Readings.{IsBegun, LeavesBegun, IsFirstFault};
+ghost use Rattle.fb_journal.specs.Starts.{CountsStart};
 ghost use Rattle.fb_journal.specs.Windows.{Shows};
 ghost use Rattle.fb_journal.specs.declared.starts.StartFault.{StartFault};
 
@@ -24,7 +24,7 @@ pub(crate) fn begin<D: Disk>(alloc: Global, disk: &mut D, mark: Mark) -> Result<
         (take 15 file ≡ mark_bytes mark) × Shows file window × Only file (D.images disk.new))) }
     ensures room { IfOk result (λ window. 15 < window.len) }
     ensures why_not { IfErr result
-        (λ fault. IsWhyNot (mark_bytes mark) (D.bytes disk.old) fault []) }
+        (IsFirstFault (mark_bytes mark) (D.bytes disk.old) []) }
     ensures bytes { IfErr result (λ fault. (nth at : ℕ) → fault ≡ StartFault.BadLog nth at
         → D.bytes disk.new ≡ D.bytes disk.old) }
     ensures counted { MatchResult result (λ _. D.faults disk.new ≡ D.faults disk.old)
@@ -53,7 +53,7 @@ fn read_mark<D: Disk>(
         (take 15 file ≡ mark_bytes mark) × Shows file window)) }
     ensures len { IfOk result (λ window. window.len ≡ len) }
     ensures why_not { IfErr result
-        (λ fault. IsWhyNot (mark_bytes mark) (D.bytes disk.old) fault []) }
+        (IsFirstFault (mark_bytes mark) (D.bytes disk.old) []) }
     ensures bytes { D.bytes disk.new ≡ D.bytes disk.old }
     ensures crash { Within (D.images disk.old) (D.images disk.new) }
     ensures any_moment { LeavesOnly D.moment D.images_since disk.old disk.new (D.images disk.old) }

@@ -10,7 +10,7 @@ use crate::gates::{Ahead, look_ahead};
 use crate::marks::MARK;
 use crate::openings::begin;
 use crate::windows::Window;
-use crate::{Journal, Mark, Payloads, StartFault, StartStop};
+use crate::{Journal, Mark, StartFault, StartStop};
 use fb_disk::Disk;
 use std::alloc::Global;
 
@@ -45,8 +45,7 @@ pub struct Reading<D: Disk> {
 }
 
 impl<D: Disk> Journal<D> {
-    ghost use Rattle.fb_journal.specs.Readings.{disk_from, HasRead, LeavesBegun};
-    ghost use Rattle.fb_journal.specs.Starts.{IsWhyNot};
+    ghost use Rattle.fb_journal.specs.Readings.{disk_from, HasRead, LeavesBegun, IsFirstFault};
     ghost use Rattle.fb_journal.specs.declared.starts.StartFault.{StartFault};
 
     /// Begins to read the journal of a disk, with a sync first. Of at most 16 bytes it makes a new journal.
@@ -56,8 +55,7 @@ impl<D: Disk> Journal<D> {
 
         // A fault of the file is its first, and the disk's is counted.
         ensures why_not { IfErr result
-            (λ s. IsWhyNot (mark_bytes mark) (D.bytes disk) s.fault s.before) }
-        ensures before { IfErr result (λ s. s.before ≡ []) }
+            (λ s. IsFirstFault (mark_bytes mark) (D.bytes disk) [] s.fault) }
         ensures bytes { IfErr result (λ s. (nth at : ℕ) → s.fault ≡ StartFault.BadLog nth at
             → D.bytes s.disk ≡ D.bytes disk) }
         ensures counted { MatchResult result (λ r. D.faults (disk_from r) ≡ D.faults disk)
@@ -76,11 +74,7 @@ impl<D: Disk> Journal<D> {
                 records: 0,
                 gate: MARK as u64,
             }),
-            Err(fault) => Err(StartStop {
-                fault,
-                disk,
-                before: Payloads::none(alloc),
-            }),
+            Err(fault) => Err(StartStop { fault, disk }),
         }
     }
 }
@@ -273,6 +267,7 @@ impl<D: Disk> Reading<D> {
             records: self.records,
             gate: self.gate,
             stopped: None,
+            laid: None,
         }
     }
 

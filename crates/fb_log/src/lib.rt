@@ -4,4 +4,4 @@
 mod logs;
 
 pub use io_faults::Failed;
-pub use logs::{Log, NoLog};
+pub use logs::Log;

@@ -1,4 +1,4 @@
-//! The log as the connection sees it, and the log of a database that is kept in memory alone.
+//! The log as the connection sees it.
 ghost use Rattle.std.specs.Prelude.{List, [], ◌∷◌, ◌++◌, IfOk, OnOk, OnErr};
 ghost use Rattle.fb_values.specs.declared.facts.Entry.{Entry};
 ghost use Rattle.fb_model.specs.Lawful.{IsLawful, IsLawfulAfter};
@@ -24,7 +24,7 @@ pub trait Log: Drop {
     ghost broke: { Self → List Entry → Entry → Self → Type 0 };
 
     /// Makes the record of an entry that may follow a lawful history. Adding it takes no more memory.
-    fn record(&self, alloc: Global, entry: &Entry) -> Result<Self::Record, Memory>
+    fn record(alloc: Global, entry: &Entry) -> Result<Self::Record, Memory>
         requires { (h : List Entry) × IsLawful h × IsLawfulAfter h entry.now }
         ensures { IfOk result (λ made. is_of made entry.now) };
 
@@ -37,26 +37,15 @@ pub trait Log: Drop {
         ensures broke { OnErr result
             ((begun : Self) (h : List Entry) (entry : Entry) → is_of made.now entry
             → IsLawfulAfter h entry → keeps begun h self.old → broke begun h entry self.new) };
-}
 
-/// No log: the history is kept in memory alone, and nothing can fail.
-#[derive(Clone, Copy)]
-pub struct NoLog;
-
-impl Log for NoLog {
-    type Record = ();
-
-    ghost is_of = { λ _ _. Unit {0} };
-
-    ghost keeps = { λ _ _ _. Unit {0} };
-
-    ghost broke = { λ _ _ _ _. ⊥ };
-
-    fn record(&self, _alloc: Global, _entry: &Entry) -> Result<(), Memory> {
-        Ok(())
-    }
-
-    fn add(&mut self, _made: &()) -> Result<(), Failed> {
-        Ok(())
-    }
+    /// The same, and a record that is likely to be the next one added is made ready with it. If it is, adding it is cheaper;
+    /// whatever it is, it is no part of the history before it is added. It takes no memory.
+    fn add_beside(&mut self, made: &Self::Record, next: Self::Record) -> Result<(), Failed>
+        ensures kept { OnOk result
+            ((begun : Self) (h : List Entry) (entry : Entry) → is_of made.now entry
+            → IsLawfulAfter h entry → keeps begun h self.old
+            → keeps begun (h ++ entry ∷ []) self.new) }
+        ensures broke { OnErr result
+            ((begun : Self) (h : List Entry) (entry : Entry) → is_of made.now entry
+            → IsLawfulAfter h entry → keeps begun h self.old → broke begun h entry self.new) };
 }

@@ -1,7 +1,6 @@
 -- The entity that has a value is that of the first datom of the value in AVET.
-use Rattle.std.proofs.Common.{◌≡◌, ℕ, ◌<◌, ◌≤◌, true, false, ◌&&◌, List, [], ◌∷◌, refl, ap, sym, ◌∙◌, subst, arith, inl, inr, Option, Some}
+use Rattle.std.proofs.Common.{◌≡◌, ℕ, ◌<◌, ◌≤◌, true, ◌&&◌, List, [], ◌∷◌, refl, ap, sym, ◌∙◌, subst, arith, inl, inr, Option, Some}
 use Rattle.std.proofs.Common.{None, eqb}
-use Rattle.std.specs.Prelude.{slice_get}
 use Rattle.std.specs.Option.{option_map}
 use Rattle.std.specs.Ordering.{is_eq, is_lt, nat_cmp, ordering_then, ordering_reverse}
 use Rattle.std.specs.Cmp.{tied_itself}
@@ -17,13 +16,12 @@ use Rattle.fb_values.specs.declared.indexes.Order.TheVariants.{Avet}
 use Rattle.fb_values.specs.declared.indexes.Probe.{Probe}
 use Rattle.fb_values.specs.Orders.{value_cmp, key_cmp, probe_cmp}
 use Rattle.fb_values.specs.OrderLaws.{value_cmp_total}
-use Rattle.fb_model.specs.Facts.{facts, value_eq, is_of}
+use Rattle.fb_model.specs.Facts.{facts, value_eq}
 use Rattle.fb_model.specs.Schema.{covers}
-use Rattle.fb_model.proofs.Members.{here, cases_of, none_of}
-use Rattle.fb_model.proofs.InOrder.{first_is_least}
 use Rattle.fb_model.proofs.Triples.{is_of-true, value_eq-true, value_eq-refl}
 use Rattle.view_model.specs.Window.{Window, without_history}
-use Rattle.view_model.specs.Scan.{leading, is_scanned, IsScan}
+use Rattle.view_model.specs.Scan.{leading, is_scanned}
+use Rattle.fb_scan.specs.Firsts.{IsFirst}
 use Rattle.read_model.specs.Finding.{Has, IsHolder}
 
 -- the datoms of a value
@@ -92,11 +90,11 @@ module _ (h : List Entry) (w : Window) (Selects : Datom → Type 0) (a : ℕ) (v
       (subst (λ u. value_eq has.datom.v u ≡ true) own.v_is (value_eq-refl has.datom.v)) in
       and_from (covers (facts h) Avet has.datom.a) (is_eq (probe_cmp (of_value a v) has.datom)) held led
 
-  pub holder_in_scan : (ds : List Datom) → IsScan h (without_history w) Selects Avet (leading (of_value a v)) ds
-      → IsHolder h w Selects a v (option_map (λ d. d.e) (slice_get ds 0))
-  holder_in_scan [] scan = λ e has. none_of has.datom ((scan.members has.datom).1 (has.in_view, scanned e has))
-  holder_in_scan (d ∷ ds) scan =
-      let mine = (scan.members d).0 (here d ds) in
+  pub holder_of_first : (first : Option Datom) → IsFirst h (without_history w) Selects Avet (leading (of_value a v)) first
+      → IsHolder h w Selects a v (option_map (λ d. d.e) first)
+  holder_of_first None none = λ e has. none has.datom (has.in_view, scanned e has)
+  holder_of_first (Some d) first =
+      let mine = first.0 in
       let parts = and_parts (covers (facts h) Avet d.a) (is_eq (probe_cmp (of_value a v) d)) mine.1 in
       let both = and_parts (eqb d.a a) (value_eq d.v v) (sym (leads a v d) ∙ parts.1) in
       let a_is = eqb-true d.a a both.0 in
@@ -109,25 +107,12 @@ module _ (h : List Entry) (w : Window) (Selects : Datom → Type 0) (a : ℕ) (v
         },
         λ other has.
             let own = is_of-true other a v has.datom has.says in
-            elim (cases_of d has.datom ds ((scan.members has.datom).1 (has.in_view, scanned other has))) [
+            elim (first.1 has.datom (has.in_view, scanned other has)) [
               | inl same ↦ let e_is : d.e ≡ has.datom.e = ap (λ (x : Datom). x.e) same in omega (arith, e_is, own.e_is)
               | inr later ↦ omega (
                 arith,
                 own.e_is,
-                by_entity d has.datom (a_is ∙ sym own.a_is) (v_is ∙ sym own.v_is) (first_is_least Avet d ds has.datom scan.rising later),
+                by_entity d has.datom (a_is ∙ sym own.a_is) (v_is ∙ sym own.v_is) (ap is_lt later),
               )
             ],
       )
-
--- the same of a value that is lent
-pub holder_from : {F : Type 0} (Selects : F → Datom → Type 0) (h there : List Entry) (w present : Window) (filter lent : F) (a : ℕ)
-    (v : Value) (ds : List Datom) (first : Option Datom)
-    → there ≡ h → present ≡ without_history w → lent ≡ filter
-    → covers (facts h) Avet a ≡ true → IsScan there present (Selects lent) Avet (leading (of_value a v)) ds → first ≡ slice_get ds 0
-    → IsHolder h w (Selects filter) a v (option_map (λ d. d.e) first)
-holder_from Selects h there w present filter lent a v ds first same_h same_w same_f covered scan at =
-    let one = subst (λ x. IsScan x present (Selects lent) Avet (leading (of_value a v)) ds) same_h scan in
-    let two = subst (λ x. IsScan h x (Selects lent) Avet (leading (of_value a v)) ds) same_w one in
-    let three = subst (λ x. IsScan h (without_history w) (Selects x) Avet (leading (of_value a v)) ds) same_f two in
-    subst (λ (o : Option Datom). IsHolder h w (Selects filter) a v (option_map (λ d. d.e) o)) (sym at)
-    (holder_in_scan h w (Selects filter) a v covered ds three)

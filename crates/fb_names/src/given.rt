@@ -23,7 +23,6 @@ use fb_preds::Selector;
 use fb_schema::{Attribute, Schema, schemas_tell_of_attributes};
 use fb_values::{Order, Value};
 use read_refusals::{Reason, Refusal};
-use std::alloc::Global;
 
 /// An attribute with its type.
 #[derive(Clone, Copy)]
@@ -42,18 +41,13 @@ fn bad_component(at: usize) -> Refusal
 }
 
 /// An entity by its name.
-pub fn entity<S: Selector>(
-    alloc: Global,
-    db: &Db<S>,
-    form: &Edn,
-    at: usize,
-) -> Result<u64, NameStop>
+pub fn entity<S: Selector>(db: &Db<S>, form: &Edn, at: usize) -> Result<u64, NameStop>
     ensures { AnswersAs
         (IsGiven db.now.snapshot.entries (window_of db.now) (S.selects db.now.filter) at
         (entity_given (λ e. e) (id_in (facts db.now.snapshot.entries) (form_of form.now))))
         result }
 {
-    match entid(alloc, db, form)? {
+    match entid(db, form)? {
         Some(e) => Ok(e),
         None => Err(NameStop::Refused(bad_component(at))),
     }
@@ -84,20 +78,14 @@ pub fn attribute(schema: &Schema, order: Order, form: &Edn, at: usize) -> Result
 }
 
 /// A value of the type. If that is the type of entities, the value is named as an entity is.
-pub fn value<S: Selector>(
-    alloc: Global,
-    db: &Db<S>,
-    kind: u64,
-    form: &Edn,
-    at: usize,
-) -> Result<Value, NameStop>
+pub fn value<S: Selector>(db: &Db<S>, kind: u64, form: &Edn, at: usize) -> Result<Value, NameStop>
     ensures { AnswersAs
         (IsGiven db.now.snapshot.entries (window_of db.now) (S.selects db.now.filter) at
         (value_given (facts db.now.snapshot.entries) (λ v. v) kind (form_of form.now)))
         result }
 {
     if kind == TYPE_REF {
-        return Ok(Value::Ref(entity(alloc, db, form, at)?));
+        return Ok(Value::Ref(entity(db, form, at)?));
     }
     match plain_value(kind, form)? {
         Some(v) => Ok(v),

@@ -7,7 +7,6 @@ mod instants;
 mod laws;
 mod names;
 mod points;
-mod present;
 mod probes;
 mod ranges;
 mod stops;

@@ -18,7 +18,6 @@ ghost use Rattle.read_model.specs.Finding.{IsHolder};
 ghost use Rattle.read_model.specs.Names.{IsEntityOf, IsFound, lookup_of};
 ghost use Rattle.fb_names.specs.Names.{number_in, id_of};
 
-use crate::present::present;
 use edn_form::{Edn, Items};
 use edn_values::{as_value, forms_of_other_types};
 use fb_db::Db;
@@ -26,11 +25,10 @@ use fb_memory::Memory;
 use fb_model::attributes_stay_attributes;
 use fb_numbers::{IDENT, TYPE_REF};
 use fb_preds::Selector;
-use fb_scan::datoms;
+use fb_scan::first_present;
 use fb_schema::{Schema, schemas_tell_of_attributes};
 use fb_text::Text;
 use fb_values::{Order, Probe, Value};
-use std::alloc::Global;
 use tx_forms::lookup_in;
 
 /// A unique attribute and a value of its type.
@@ -41,14 +39,14 @@ pub struct Lookup {
 }
 
 /// The entity that the form names in the view: none where it is not a name, or finds no entity. A number names itself.
-pub fn entid<S: Selector>(alloc: Global, db: &Db<S>, form: &Edn) -> Result<Option<u64>, Memory>
+pub fn entid<S: Selector>(db: &Db<S>, form: &Edn) -> Result<Option<u64>, Memory>
     ensures { IfOk result (λ e. IsEntityOf db.now.snapshot.entries (window_of db.now)
         (S.selects db.now.filter) (form_of form.now) e) }
 {
     match form {
         Edn::Int(n) => Ok(numbered(*n)),
-        Edn::Key(name) => named(alloc, db, name),
-        Edn::Vector(items) => looked_up(alloc, db, items),
+        Edn::Key(name) => named(db, name),
+        Edn::Vector(items) => looked_up(db, items),
         _ => Ok(None),
     }
 }
@@ -59,13 +57,13 @@ fn numbered(n: i64) -> Option<u64>
     u64::try_from(n).ok()
 }
 
-fn named<S: Selector>(alloc: Global, db: &Db<S>, name: &Text) -> Result<Option<u64>, Memory>
+fn named<S: Selector>(db: &Db<S>, name: &Text) -> Result<Option<u64>, Memory>
     ensures { IfOk result (λ e. IsHolder db.now.snapshot.entries (window_of db.now)
         (S.selects db.now.filter) ident_attribute (Keyword name.now) e) }
 {
     idents_are_indexed();
     let _ = db.snapshot.entries();
-    holder(alloc, db, IDENT, Value::Keyword(name.copy()?))
+    Ok(holder(db, IDENT, Value::Keyword(name.copy()?)))
 }
 
 /// AVET holds the idents of every lawful history: nothing changes the attribute.
@@ -75,7 +73,7 @@ fn idents_are_indexed()
     attributes_stay_attributes();
 }
 
-fn looked_up<S: Selector>(alloc: Global, db: &Db<S>, items: &Items) -> Result<Option<u64>, Memory>
+fn looked_up<S: Selector>(db: &Db<S>, items: &Items) -> Result<Option<u64>, Memory>
     ensures { IfOk result (λ e. IsFound db.now.snapshot.entries (window_of db.now)
         (S.selects db.now.filter)
         (lookup_of (facts db.now.snapshot.entries)
@@ -86,7 +84,7 @@ fn looked_up<S: Selector>(alloc: Global, db: &Db<S>, items: &Items) -> Result<Op
         return Ok(None);
     };
     match unique_value(db.snapshot.schema(), keyword, value)? {
-        Some(found) => holder(alloc, db, found.attribute, found.value),
+        Some(found) => Ok(holder(db, found.attribute, found.value)),
         None => Ok(None),
     }
 }
@@ -128,10 +126,10 @@ pub fn plain_value(kind: u64, form: &Edn) -> Result<Option<Value>, Memory>
 }
 
 /// The least entity that has the value. AVET has the value's datoms by their entities, so it is that of the first one.
-fn holder<S: Selector>(alloc: Global, db: &Db<S>, a: u64, v: Value) -> Result<Option<u64>, Memory>
+fn holder<S: Selector>(db: &Db<S>, a: u64, v: Value) -> Option<u64>
     requires { covers (facts db.now.snapshot.entries) Avet a ≡ true }
-    ensures { IfOk result
-        (λ e. IsHolder db.now.snapshot.entries (window_of db.now) (S.selects db.now.filter) a v e) }
+    ensures { IsHolder db.now.snapshot.entries (window_of db.now) (S.selects db.now.filter) a v
+        result }
 {
     let probe = Probe {
         order: Order::Avet,
@@ -140,10 +138,8 @@ fn holder<S: Selector>(alloc: Global, db: &Db<S>, a: u64, v: Value) -> Result<Op
         v: Some(v),
         t: None,
     };
-    let present = present(db)?;
-    let found = datoms(alloc, &present, &probe)?;
-    match found.as_slice().first() {
-        Some(d) => Ok(Some(d.e)),
-        None => Ok(None),
+    match first_present(db, &probe) {
+        Some(d) => Some(d.e),
+        None => None,
     }
 }

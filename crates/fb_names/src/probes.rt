@@ -19,7 +19,6 @@ use fb_preds::Selector;
 use fb_schema::{Schema, schemas_tell_of_attributes};
 use fb_values::{Order, Probe};
 use read_refusals::{Reason, Refusal};
-use std::alloc::Global;
 
 /// How many components an index has.
 const COMPONENTS: usize = 4;
@@ -38,12 +37,7 @@ pub enum Component {
 
 /// The probe that the forms after the index's name give, or the first place that fails. An index has four components, and
 /// a form with more is not a command.
-pub fn components<S: Selector>(
-    alloc: Global,
-    db: &Db<S>,
-    order: Order,
-    given: &[Edn],
-) -> Result<Probe, NameStop>
+pub fn components<S: Selector>(db: &Db<S>, order: Order, given: &[Edn]) -> Result<Probe, NameStop>
     ensures { AnswersAs
         (AreComponents db.now.snapshot.entries (window_of db.now) (S.selects db.now.filter) order
         (forms_of given.now))
@@ -55,7 +49,7 @@ pub fn components<S: Selector>(
     let mut probe = no_component(order);
     for (place, form) in given.iter().enumerate() {
         let part = part_at(order, place);
-        probe = with_next(alloc, db, probe, part, form, place + FIRST)?;
+        probe = with_next(db, probe, part, form, place + FIRST)?;
     }
     Ok(probe)
 }
@@ -123,7 +117,6 @@ fn no_component(order: Order) -> Probe
 
 /// The probe with one component more.
 fn with_next<S: Selector>(
-    alloc: Global,
     db: &Db<S>,
     probe: Probe,
     part: Component,
@@ -137,7 +130,7 @@ fn with_next<S: Selector>(
 {
     match part {
         Component::Entity => {
-            let e = entity(alloc, db, form, at)?;
+            let e = entity(db, form, at)?;
             Ok(Probe {
                 e: Some(e),
                 ..probe
@@ -152,7 +145,7 @@ fn with_next<S: Selector>(
         }
         Component::Value => {
             let kind = kind_behind(db.snapshot.schema(), &probe);
-            let v = value(alloc, db, kind, form, at)?;
+            let v = value(db, kind, form, at)?;
             Ok(Probe {
                 v: Some(v),
                 ..probe

@@ -13,7 +13,6 @@ use edn_form::Edn;
 use fb_db::Db;
 use fb_preds::Selector;
 use fb_values::{Order, Value};
-use std::alloc::Global;
 
 /// The values of an attribute from the first one on and before the second. Where one is not given, that end is open.
 #[derive(Drop)]
@@ -26,7 +25,6 @@ pub struct ValueRange {
 /// The range that an attribute's keyword and two values or nils after the command's word give. AVET has to hold the
 /// attribute.
 pub fn index_range<S: Selector>(
-    alloc: Global,
     db: &Db<S>,
     a: &Edn,
     start: &Edn,
@@ -38,8 +36,8 @@ pub fn index_range<S: Selector>(
         result }
 {
     let attribute = attribute(db.snapshot.schema(), Order::Avet, a, 1)?;
-    let start = range_end(alloc, db, attribute.kind, start, 2)?;
-    let end = range_end(alloc, db, attribute.kind, end, 3)?;
+    let start = range_end(db, attribute.kind, start, 2)?;
+    let end = range_end(db, attribute.kind, end, 3)?;
     Ok(ValueRange {
         attribute: attribute.id,
         start,
@@ -49,7 +47,6 @@ pub fn index_range<S: Selector>(
 
 /// A value of the type, or nil for an open end.
 fn range_end<S: Selector>(
-    alloc: Global,
     db: &Db<S>,
     kind: u64,
     form: &Edn,
@@ -63,7 +60,7 @@ fn range_end<S: Selector>(
     if is_nil(form) {
         return Ok(None);
     }
-    Ok(Some(value(alloc, db, kind, form, at)?))
+    Ok(Some(value(db, kind, form, at)?))
 }
 
 fn is_nil(form: &Edn) -> bool

@@ -55,7 +55,7 @@ fn answer_by<S: Selector>(
         (Ok (model_pattern pattern.now)) (form_of entity.now))
         line.new.items) }
 {
-    match entid(alloc, view, entity)? {
+    match entid(view, entity)? {
         Some(e) => answer_of(alloc, view, pattern, e, line),
         None => refuse_at(line, view, Reason::NotAnEntity, 2),
     }

@@ -38,7 +38,7 @@ pub fn answer_datoms<S: Selector>(
         (HasDatomsAt view.now.snapshot.entries (window_of view.now) (S.selects view.now.filter) order leading (forms_of given.now))
         line.new.items) }
 {
-    match components(alloc, view, order, given) {
+    match components(view, order, given) {
         Ok(probe) => {
             let found = fb_scan::lent::datoms(alloc, view, &probe)?;
             write_found(line, view, &found)
@@ -59,7 +59,7 @@ pub fn answer_seek<S: Selector>(
         (HasDatomsAt view.now.snapshot.entries (window_of view.now) (S.selects view.now.filter) order not_below (forms_of given.now))
         line.new.items) }
 {
-    match components(alloc, view, order, given) {
+    match components(view, order, given) {
         Ok(probe) => {
             let found = fb_scan::lent::seek(alloc, view, &probe)?;
             write_found(line, view, &found)
@@ -82,7 +82,7 @@ pub fn answer_index_range<S: Selector>(
         (form_of a.now) (form_of start.now) (form_of end.now))
         line.new.items) }
 {
-    match fb_names::index_range(alloc, view, a, start, end) {
+    match fb_names::index_range(view, a, start, end) {
         Ok(range) => {
             let bounds = Bounds {
                 start: range.start,

@@ -3,7 +3,7 @@ use Rattle.std.proofs.Common.{◌≡◌, inl, inr, ℕ, List, Option, refl, sym}
 use Rattle.disk_model.specs.Disk.{IfKnown}
 use Rattle.disk_model.specs.Journal.{log_mark, JournalStands}
 use Rattle.log_model.specs.Log.{LogSays, log_says}
-use Rattle.fb_journal.specs.Starts.{IsWhyNot, CountsStart}
+use Rattle.fb_journal.specs.Starts.{CountsStart}
 use Rattle.fb_journal.specs.Readings.{IsFirstFault}
 use Rattle.fb_journal.specs.declared.starts.StartFault.{StartFault}
 use Rattle.fb_journal.specs.declared.starts.StartFault.TheVariants.{Disk as StartDisk, BadLog as StartBadLog, Memory as StartMemory}
@@ -11,19 +11,12 @@ use Rattle.fb_recover.specs.declared.faults.OpenFault.{OpenFault}
 use Rattle.fb_recover.specs.declared.faults.OpenFault.TheVariants.{Disk, BadLog, Unlawful, Memory}
 use Rattle.fb_recover.specs.Faults.{fault_of, MatchesFault, IsCause, CountsLog}
 
--- of the start
-pub start-cause : (told : Option (List ℕ)) (start : StartFault) (before : List (List ℕ)) → IsWhyNot log_mark told start before
-    → IfKnown told (IsCause (fault_of start))
-start-cause told StartDisk before why = λ file is. tt
-start-cause told StartMemory before why = λ file is. tt
-start-cause told (StartBadLog nth at) before why = λ file is. (before, inr (nth, at, why file is, refl))
-
 pub start-counts : (start : StartFault) (old new : ℕ) → CountsStart start old new → CountsLog (fault_of start) old new
 start-counts StartDisk old new counts = counts
 start-counts (StartBadLog nth at) old new counts = counts
 start-counts StartMemory old new counts = counts
 
--- of the journal, where its records are read
+-- of the journal, where it is opened and its records are read
 pub reading-cause : (told : Option (List ℕ)) (start : StartFault) (records : List (List ℕ)) → IsFirstFault log_mark told records start
     → IfKnown told (IsCause (fault_of start))
 reading-cause told StartDisk records first = λ file is. tt

@@ -60,7 +60,7 @@ pub(crate) fn open_log<D: Disk>(alloc: Global, disk: D) -> Result<Logged<D>, Log
 {
     let mut reading = match Journal::open(alloc, disk, Mark::Log) {
         Ok(reading) => reading,
-        Err(StartStop { fault, disk, .. }) => {
+        Err(StartStop { fault, disk }) => {
             let fault = OpenFault::from(fault);
             return Err(LogStop { fault, disk });
         }

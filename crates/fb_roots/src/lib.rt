@@ -5,4 +5,4 @@ mod bases;
 mod stores;
 
 pub use bases::Base;
-pub use stores::{KeepFault, NoStore, RootStore};
+pub use stores::{KeepFault, RootStore};

@@ -1,4 +1,4 @@
-//! The store of trees as the worker sees it, and that of a database whose trees are had in memory alone.
+//! The store of trees as the worker sees it.
 ghost use Rattle.std.specs.Prelude.{◌≡◌, ◌≤◌, ℕ, List, OnOk, IsErrOf};
 ghost use Rattle.io_faults.specs.Faults.{Rose};
 ghost use Rattle.fb_values.specs.declared.facts.Entry.{Entry};
@@ -69,28 +69,4 @@ pub trait RootStore: Drop {
         ensures unfailed { (IsErrOf result KeepFault.Failed → ⊥)
             → ((begun : Self) → goes begun self.old → goes begun self.new)
             × (faults self.new ≡ faults self.old) };
-}
-
-/// No store: trees are had in memory alone, which no opening finds again, and nothing can fail.
-#[derive(Clone, Copy)]
-pub struct NoStore;
-
-impl RootStore for NoStore {
-    ghost faults = { λ _. 0 };
-
-    ghost goes = { λ _ _. Unit {0} };
-
-    ghost keeps = { λ _ _ _. Unit {0} };
-
-    ghost next = { λ _. 0 };
-
-    ghost fits = { λ _ _. Unit {0} };
-
-    fn next_id(&self) -> u64 {
-        0
-    }
-
-    fn keep(&mut self, _alloc: Global, _base: &Base) -> Result<(), KeepFault> {
-        Ok(())
-    }
 }

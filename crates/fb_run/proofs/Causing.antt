@@ -13,7 +13,7 @@ use Rattle.fb_values.specs.declared.facts.Entry.{Entry}
 use Rattle.command_line.specs.Words.{Command, run, check, load, backup, scripts_of, are_scripts, are_apart, standard}
 use Rattle.fb_session.specs.declared.outcome.SessionEnd.{SessionEnd}
 use Rattle.fb_session.specs.declared.outcome.SessionEnd.TheVariants as ended
-use Rattle.fb_session.specs.Sessions.{Terms}
+use Rattle.fb_session.specs.Terms.{Terms}
 use Rattle.fb_session.specs.Replies.{SessionRun, Replies, SourceCount, SinkCount}
 use Rattle.fb_run.specs.declared.outcome.SessionOut.{SessionOut}
 use Rattle.fb_run.specs.declared.outcome.Outcome.{Outcome}
@@ -36,7 +36,8 @@ use Rattle.fb_run.specs.declared.database.Obstacle.TheVariants as obstacle
 use Rattle.fb_run.specs.declared.database.Unready.{Unready}
 use Rattle.fb_run.specs.declared.opening.Unopened.TheVariants as unopened
 use Rattle.fb_run.specs.declared.looking.Look.{Look}
-use Rattle.fb_run.specs.Outside.{StreamSpec, DiskSpec, IsDiskOf, ports_of, OpensUpTo, run_from, run_of, setting_of, EachOf}
+use Rattle.fb_run.specs.Outside.{StreamSpec, DiskSpec, IsDiskOf, ports_of, OpensUpTo, run_of, setting_of, EachOf}
+use Rattle.fb_run.specs.Jobs.{run_from}
 use Rattle.fb_view.specs.SnapshotModel.{SnapshotModel}
 use Rattle.fb_run.specs.Logs.{IsUnharmed, LogHolds}
 use Rattle.fb_run.specs.Database.{why_unready, LeaveLogUnharmed, LeavesBehind, LeavesAllOrNone, IsObstacle, IsUnready}

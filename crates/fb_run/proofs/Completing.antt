@@ -27,7 +27,7 @@ use Rattle.talk_model.specs.Talk.{forms_of}
 use Rattle.fb_session.specs.declared.outcome.SessionEnd.{SessionEnd}
 use Rattle.fb_session.specs.declared.outcome.SessionEnd.TheVariants as ended
 use Rattle.fb_session.specs.Taken.{longest_script}
-use Rattle.fb_session.specs.Sessions.{Terms}
+use Rattle.fb_session.specs.Terms.{Terms}
 use Rattle.fb_session.specs.Replies.{Trace, AnswersAll, AnswersUpTo, SessionRun, Replies, SourceCount, SinkCount}
 use Rattle.fb_session.proofs.LongerHistories.{replies_longer}
 use Rattle.fb_run.specs.declared.outcome.SessionOut.{SessionOut}

@@ -15,7 +15,7 @@ use Rattle.fb_view.specs.SnapshotModel.{SnapshotModel}
 use Rattle.command_line.specs.Words.{Command, load, greatest_load}
 use Rattle.fb_session.specs.declared.outcome.SessionEnd.{SessionEnd}
 use Rattle.fb_session.specs.declared.outcome.SessionEnd.TheVariants as ended
-use Rattle.fb_session.specs.Sessions.{Terms}
+use Rattle.fb_session.specs.Terms.{Terms}
 use Rattle.fb_run.specs.declared.outcome.SessionOut.{SessionOut}
 use Rattle.fb_run.specs.declared.outcome.Outcome.{Outcome}
 use Rattle.fb_run.specs.Outside.{StreamSpec, DiskSpec, EachOf}

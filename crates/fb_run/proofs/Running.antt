@@ -19,7 +19,7 @@ use Rattle.fb_desk.specs.Desks.{State, as_opened}
 use Rattle.fb_conn.specs.declared.conn.Conn.{Conn}
 use Rattle.fb_conn.specs.declared.seats.Seat.{Seat}
 use Rattle.fb_conn.specs.declared.home.Stop.{Stop}
-use Rattle.fb_conn.specs.Homes.{LogStands, IsTornBy}
+use Rattle.fb_conn.specs.Homes.{GoesWithLog, IsTornBy}
 use Rattle.fb_conn.specs.Seats.{IsSeatOf, IsWorkerOf, state_of}
 use Rattle.fb_core.specs.declared.shared.CoreParts.{CoreParts}
 use Rattle.fb_core.specs.declared.accepting.Draft.{Draft}
@@ -31,11 +31,12 @@ use Rattle.board_rule.specs.Calls.{view_of}
 use Rattle.fb_conn.specs.Closing.{at_of, is_author, IsTakenIn}
 use Rattle.talk_model.specs.Prefixes.{Prefixes}
 use Rattle.talk_model.proofs.Places.{commits_rise}
-use Rattle.fb_session.specs.Sessions.{Terms}
+use Rattle.fb_session.specs.Terms.{Terms}
 use Rattle.fb_session.specs.Replies.{Replies}
 use Rattle.fb_session.proofs.LongerHistories.{replies_longer, prefixes_longer}
 use Rattle.fb_run.specs.declared.outcome.SessionOut.{SessionOut}
-use Rattle.fb_run.specs.Outside.{StreamSpec, DiskSpec, run_from, setting_of, EachOf}
+use Rattle.fb_run.specs.Outside.{StreamSpec, DiskSpec, setting_of, EachOf}
+use Rattle.fb_run.specs.Jobs.{run_from}
 use Rattle.fb_run.specs.Jobs.{HasTalked, HaveTalked}
 use Rattle.fb_run.specs.declared.outcome.Outcome.{Outcome}
 use Rattle.fb_run.specs.Headline.{OneHistory, stop_of}
@@ -250,7 +251,7 @@ next_of h draft next = by_last draft.after.entries 0 _ refl ∙ next_t h (entry_
 
 pub torn_at : {D : Type 0} {g : _} (disks : DiskSpec D) (begun log : DiskLog D g) (h : List Entry) (stopped : Option Stop) (torn : Option
     Draft) → IsLawful h
-    → LogStands (KeepsHistory disks.bytes disks.images disks.faults disks.moment disks.images_since)
+    → GoesWithLog (KeepsHistory disks.bytes disks.images disks.faults disks.moment disks.images_since)
     (BrokeAt disks.bytes disks.images disks.faults disks.moment disks.images_since) begun h log stopped torn
     → stop_of torn ≡ option_map at_of stopped
 torn_at disks begun log h None torn lawful stands = ap stop_of stands.0
@@ -268,7 +269,7 @@ module _ {D : Type 0} {g : _} (disks : DiskSpec D) (begun log : DiskLog D g) (di
     disks.images_since from h entry log
     → HasBroken disks.bytes disks.images disks.faults disks.moment disks.images_since (count_in from) (disk_in from) h entry disk) where
   pub leaves_log : (h : List Entry) (stopped : Option Stop) (torn : Option Draft)
-      → LogStands (KeepsHistory disks.bytes disks.images disks.faults disks.moment disks.images_since)
+      → GoesWithLog (KeepsHistory disks.bytes disks.images disks.faults disks.moment disks.images_since)
       (BrokeAt disks.bytes disks.images disks.faults disks.moment disks.images_since) begun h log stopped torn
       → LeavesLog disks (count_in begun) (disk_in begun) h torn disk
   leaves_log h None None stands = kept begun h stands.1

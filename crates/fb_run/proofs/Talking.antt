@@ -11,7 +11,7 @@ use Rattle.fb_conn.specs.declared.conn.Conn.{Conn}
 use Rattle.fb_conn.specs.declared.seats.Seat.{Seat}
 use Rattle.fb_conn.specs.Seats.{table_of, IsAtRest, state_of}
 use Rattle.fb_conn.proofs.States.{same_table}
-use Rattle.fb_session.specs.Sessions.{Terms}
+use Rattle.fb_session.specs.Terms.{Terms}
 use Rattle.fb_run.specs.declared.jobs.Job.{Job}
 use Rattle.fb_run.specs.declared.outcome.SessionOut.{SessionOut}
 use Rattle.fb_run.specs.Outside.{StreamSpec}

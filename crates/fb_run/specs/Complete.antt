@@ -16,7 +16,7 @@ use Rattle.command_line.specs.Words.{Command, check, backup, scripts_of, sink_of
 use Rattle.talk_model.specs.Script.{whole, Script}
 use Rattle.talk_model.specs.Session.{Setting, Standing, opened_at}
 use Rattle.talk_model.specs.Talk.{Exchange, forms_of, places_of, lines_of, commits_of, Talk}
-use Rattle.fb_session.specs.Sessions.{Terms}
+use Rattle.fb_session.specs.Terms.{Terms}
 use Rattle.fb_session.specs.Taken.{longest_script}
 use Rattle.fb_session.specs.Replies.{SessionRun}
 use Rattle.fb_run.specs.declared.outcome.SessionOut.{SessionOut}

@@ -12,7 +12,7 @@ use Rattle.fb_model.specs.Lawful.{IsLawful}
 use Rattle.fb_core.specs.declared.accepting.Draft.{Draft}
 use Rattle.fb_core.specs.Worlds.{commits_behind}
 use Rattle.fb_ports.specs.HostSpec.{HostSpec}
-use Rattle.fb_session.specs.Sessions.{Terms}
+use Rattle.fb_session.specs.Terms.{Terms}
 use Rattle.fb_session.specs.Replies.{Replies}
 use Rattle.fb_run.specs.declared.outcome.SessionOut.{SessionOut}
 use Rattle.fb_run.specs.Outside.{StreamSpec, run_of, setting_of, EachOf}

@@ -8,10 +8,24 @@ use Rattle.fb_desk.specs.Desks.{State, WentOn}
 use Rattle.fb_conn.specs.declared.seats.Seat.{Seat}
 use Rattle.fb_conn.specs.declared.conn.Conn.{Conn}
 use Rattle.fb_conn.specs.Seats.{table_of, IsAtRest, state_of}
-use Rattle.fb_session.specs.Sessions.{Terms, over}
-use Rattle.fb_session.specs.Replies.{Replies, SourceCount, SinkCount}
+use Rattle.fb_session.specs.Sessions.{over}
+use Rattle.fb_session.specs.Terms.{Terms}
+use Rattle.fb_session.specs.Replies.{Replies, SessionRun, SourceCount, SinkCount}
 use Rattle.fb_run.specs.declared.outcome.SessionOut.{SessionOut}
-use Rattle.fb_run.specs.Outside.{StreamSpec, run_from}
+use Rattle.fb_run.specs.Outside.{StreamSpec}
+
+-- what a session was handed, as this source and this sink held it, and what it hands back
+abbrev pub run_from : {I O : Type 0} → StreamSpec I O → I → O → SessionOut I O → SessionRun
+run_from io source sink session =
+    record {
+      held = io.left source;
+      left = io.left session.source;
+      had = io.contents sink;
+      has = io.contents session.sink;
+      places = session.places;
+      commits = session.commits;
+      end = session.end;
+    }
 
 -- a session was answered by its desk,
 -- which went from one state to another, and became this of what it was

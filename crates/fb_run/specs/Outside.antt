@@ -9,7 +9,7 @@ use Rattle.fb_ports.specs.HostSpec.{HostSpec}
 use Rattle.fb_ports.specs.HostCalls.{Alike}
 use Rattle.command_line.specs.Words.{Command, run, check, load, backup, sink_of, standard}
 use Rattle.talk_model.specs.Session.{Setting, setting}
-use Rattle.fb_session.specs.Sessions.{Terms}
+use Rattle.fb_session.specs.Terms.{Terms}
 use Rattle.fb_session.specs.Replies.{SessionRun}
 use Rattle.fb_run.specs.declared.outcome.SessionOut.{SessionOut}
 
@@ -55,19 +55,6 @@ disks_of bytes faults images moment images_since =
     }
 
 -- ---- what was handed out for a session
-
--- what a session was handed, as this source and this sink held it, and what it hands back
-abbrev pub run_from : {I O : Type 0} → StreamSpec I O → I → O → SessionOut I O → SessionRun
-run_from io source sink session =
-    record {
-      held = io.left source;
-      left = io.left session.source;
-      had = io.contents sink;
-      has = io.contents session.sink;
-      places = session.places;
-      commits = session.commits;
-      end = session.end;
-    }
 
 -- what the session of a script was handed, by the host's record, and what it hands back
 abbrev pub run_of : {I O : Type 0} → HostSpec → StreamSpec I O → List ℕ → SessionOut I O

@@ -21,7 +21,7 @@ use Rattle.fb_core.specs.Cores.{entry_of}
 use Rattle.disk_log.specs.Disks.{HasKept, HasBroken}
 use Rattle.disk_log.specs.Logs.{disk_in}
 use Rattle.seg_store.specs.Stores.{disk_in as segments_in}
-use Rattle.fb_session.specs.Sessions.{Terms}
+use Rattle.fb_session.specs.Terms.{Terms}
 use Rattle.fb_session.specs.Replies.{Replies, SourceCount, SinkCount}
 use Rattle.fb_run.specs.declared.outcome.SessionOut.{SessionOut}
 use Rattle.fb_run.specs.declared.outcome.Outcome.{Outcome}
@@ -30,7 +30,8 @@ use Rattle.fb_run.specs.declared.database.Directory.{Directory}
 use Rattle.fb_run.specs.declared.merging.Trees.{Trees}
 use Rattle.merge_worker.specs.declared.ends.WorkEnd.{WorkEnd}
 use Rattle.fb_run.specs.Merging.{LeavesTrees}
-use Rattle.fb_run.specs.Outside.{StreamSpec, DiskSpec, run_from, setting_of, EachOf}
+use Rattle.fb_run.specs.Outside.{StreamSpec, DiskSpec, setting_of, EachOf}
+use Rattle.fb_run.specs.Jobs.{run_from}
 use Rattle.fb_run.specs.Headline.{stop_of}
 use Rattle.fb_run.specs.Logs.{IsNext}
 use Rattle.fb_run.specs.Causes.{HasDisks, SaysWhy}

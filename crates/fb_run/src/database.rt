@@ -14,7 +14,7 @@ use crate::lines::Reach;
 use crate::merging::{Trees, Worker};
 use crate::opening::Unopened;
 use disk_log::DiskLog;
-use fb_conn::{Conn, ConnStop, Made, Seat};
+use fb_conn::{Conn, ConnStop, Made, Patience, Seat};
 use fb_core::Core;
 use fb_disk::Disk;
 use fb_ports::{Host, OpenFail, Part};
@@ -22,6 +22,7 @@ use fb_recover::{OpenFault, OpenStop, Opened, reopen};
 use merge_worker::{WorkEnd, base_of};
 use seg_store::SegStore;
 use std::alloc::Global;
+use std::thread::{Threads, available_parallelism};
 
 /// The two disks of a directory.
 #[derive(Drop)]
@@ -186,12 +187,21 @@ pub(crate) struct Connection<D: Disk> {
     pub(crate) worker: Worker<D>,
 }
 
+/// How long who is next in line for a turn stays awake on this machine. One that does not tell of its processors counts as having one.
+pub(crate) fn patience_here<R: Threads>(rt: &R) -> Patience {
+    match available_parallelism(rt) {
+        Ok(count) => Patience::on(count.get()),
+        Err(_) => Patience::on(1),
+    }
+}
+
 /// The connection of so many sessions to a database that was opened. Where memory runs out, its disks are handed back.
 pub(crate) fn connected<D: Disk>(
     alloc: Global,
     directory: Directory<D>,
     sessions: u32,
     merge_at: u64,
+    patience: Patience,
 ) -> Result<Connection<D>, Disks<D>>
     requires few { (0 < sessions) × (sessions ≤ 16) }
     requires fresh { (directory.core.authors ≡ [])
@@ -213,7 +223,7 @@ pub(crate) fn connected<D: Disk>(
         store,
         ..
     } = directory;
-    match Conn::new(alloc, core, log, sessions, merge_at) {
+    match Conn::new(alloc, core, log, sessions, merge_at, patience) {
         Ok(
             Made {
                 conn,

@@ -6,7 +6,7 @@ ghost use Rattle.std.specs.Vec.Iter.{into_iter_items, into_iter_len};
 ghost use Rattle.talk_model.specs.Script.{most_commands};
 ghost use Rattle.fb_conn.specs.declared.seats.Seat.{Seat};
 ghost use Rattle.fb_conn.specs.Seats.{IsSeatOf, state_of};
-ghost use Rattle.fb_session.specs.Sessions.{terms_at};
+ghost use Rattle.fb_session.specs.Terms.{terms_at};
 ghost use Rattle.fb_run.specs.Outside.{streams_of, disks_of};
 ghost use Rattle.fb_run.specs.Jobs.{HasTalked, HaveTalked};
 ghost use Rattle.fb_run.specs.Merging.{TreesFit, CanWork, HasWorked};

@@ -9,7 +9,7 @@ ghost use Rattle.talk_model.specs.Prefixes.{Prefixes};
 ghost use Rattle.command_line.specs.Words.{load, load_merge_at, standard};
 ghost use Rattle.command_line.specs.Views.{names_in};
 ghost use Rattle.fb_ports.specs.declared.hosts.Part.{Part};
-ghost use Rattle.fb_session.specs.Sessions.{terms_at};
+ghost use Rattle.fb_session.specs.Terms.{terms_at};
 ghost use Rattle.fb_run.specs.Outside.{streams_of, disks_of, of_sinks, ports_of, IsSinkOf, OpensOnly};
 ghost use Rattle.fb_run.specs.Generated.{loads_of, spec_in_memory, in_memory};
 ghost use Rattle.fb_run.specs.Opening.{OpensSink, HostRefuses};

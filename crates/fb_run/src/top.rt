@@ -10,7 +10,7 @@ ghost use Rattle.command_line.specs.Views.{names_in, run_by};
 ghost use Rattle.disk_log.specs.Logs.{disk_in};
 ghost use Rattle.talk_model.specs.Prefixes.{Prefixes};
 ghost use Rattle.fb_ports.specs.declared.hosts.Part.{Part};
-ghost use Rattle.fb_session.specs.Sessions.{terms_at};
+ghost use Rattle.fb_session.specs.Terms.{terms_at};
 ghost use Rattle.fb_view.specs.SnapshotModel.{Stands};
 ghost use Rattle.fb_run.specs.Outside.{streams_of, disks_of, ports_of, OpensOnly};
 ghost use Rattle.fb_run.specs.Generated.{loads_of, spec_in_memory, in_memory};
@@ -26,7 +26,7 @@ ghost use Rattle.fb_run.specs.Database.{IsReopened};
 ghost use Rattle.fb_run.specs.Running.{RepliesBy, HaveEnded, HandsLogBack, HandsBothBack, GoesOnFrom};
 
 use crate::backing::back_up;
-use crate::database::{Connection, connected};
+use crate::database::{Connection, connected, patience_here};
 use crate::ending::{closed, cut_short, not_begun, without_session};
 use crate::jobs::{room_for, serve_all};
 use crate::lines::{out_of_memory, usage};
@@ -310,7 +310,8 @@ pub(crate) fn run_opened<
     let Ok(room) = room_for(alloc, count) else {
         return cut_short(alloc, directory.into_disks());
     };
-    match connected(alloc, directory, count as u32, command.options.merge_at) {
+    let merge_at = command.options.merge_at;
+    match connected(alloc, directory, count as u32, merge_at, patience_here(rt)) {
         Ok(
             Connection {
                 conn,

@@ -5,3 +5,4 @@ pub mod Going
 pub mod Log
 pub mod NextAttribute
 pub mod Stepping
+pub mod FirstRow

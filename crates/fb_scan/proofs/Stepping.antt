@@ -47,7 +47,7 @@ use Rattle.fb_scan.specs.declared.ends.End.{End}
 use Rattle.fb_scan.specs.declared.walk.Scan.{Scan}
 use Rattle.fb_scan.specs.declared.ends.End.TheVariants.{Never, Behind, Before}
 use Rattle.fb_scan.specs.Ends.{is_past, is_met, IsIn, IsWalk, valued}
-use Rattle.fb_scan.specs.Steps.{AreRead, last_read, path, HasGiven, IsGiven, IsGoing, IsWalkUpto}
+use Rattle.fb_scan.specs.Steps.{AreRead, last_read, path, HasGiven, IsGiven, IsGoing, IsWalkUpto, showing}
 use Rattle.fb_scan.specs.Walks.{extent_of, is_shown, shown}
 use Rattle.fb_scan.proofs.Seeing.{shown_within}
 use Rattle.fb_scan.proofs.Meeting.{path_of as read_of_kept, met, meets}
@@ -106,6 +106,10 @@ module _ {S : Type 0} (db : Db S) (SelectsIn : Db S → Datom → Type 0) (from 
   abbrev w : Window
   w = window_of db
 
+  -- what the scan sees
+  abbrev pub seen : Db S
+  seen = showing old.history old.db.now
+
   abbrev h : List Entry
   h = db.snapshot.entries
 
@@ -128,19 +132,19 @@ module _ {S : Type 0} (db : Db S) (SelectsIn : Db S → Datom → Type 0) (from 
         (beside_is : (v : Window) (d : Datom) → is_shown old.extent v d beside ≡ is_shown old.extent v d (slice_get rest 0)) where
       -- as the scan tests the datom
       abbrev pub Tested : Type 0
-      Tested = IsTrue (held && is_shown old.extent (window_of old.db.now) x beside) × SelectsIn old.db.now x
+      Tested = IsTrue (held && is_shown old.extent (window_of seen) x beside) × SelectsIn seen x
 
       abbrev Passes : Type 0
       Passes = IsTrue (covers (facts h) from.order x.a && is_shown old.extent w x (slice_get rest 0)) × Selects x
 
-      test_is : (held && is_shown old.extent (window_of old.db.now) x beside)
+      test_is : (held && is_shown old.extent (window_of seen) x beside)
           ≡ (covers (facts h) from.order x.a && is_shown old.extent w x (slice_get rest 0))
       test_is =
-          ap (λ b. b && is_shown old.extent (window_of old.db.now) x beside)
+          ap (λ b. b && is_shown old.extent (window_of seen) x beside)
           (held_is ∙ ap (λ (v : Db S). covers (facts v.snapshot.entries) old.order x.a) has.db_is
           ∙ ap (λ (o : Order). covers (facts h) o x.a) has.order_is)
           ∙ ap (λ b. covers (facts h) from.order x.a && b)
-          (beside_is (window_of old.db.now) x ∙ ap (λ (v : Db S). is_shown old.extent (window_of v) x (slice_get rest 0)) has.db_is)
+          (beside_is (window_of seen) x ∙ ap (λ (v : Db S). is_shown old.extent (window_of v) x (slice_get rest 0)) has.db_is)
 
       -- what is left behind the datom
       abbrev behind : Scan S
@@ -152,6 +156,7 @@ module _ {S : Type 0} (db : Db S) (SelectsIn : Db S → Datom → Type 0) (from 
         order_is = has.order_is;
         end_is = has.end_is;
         inside = has.inside;
+        knows = has.knows;
         going =
             gives h w Selects from end old.extent found x rest going (subst (λ (e : End). is_past e x ≡ false) has.end_is before)
             (subst (λ (b : Bool). b ≡ true) test_is tested.0, subst (λ (v : Db S). SelectsIn v x) has.db_is tested.1);
@@ -163,6 +168,7 @@ module _ {S : Type 0} (db : Db S) (SelectsIn : Db S → Datom → Type 0) (from 
         order_is = has.order_is;
         end_is = has.end_is;
         inside = has.inside;
+        knows = has.knows;
         going =
             passes_by h w Selects from end old.extent found x rest going
             (λ passes. fails (

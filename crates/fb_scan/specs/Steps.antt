@@ -1,6 +1,6 @@
 -- A scan of an index: what it reads, which of that it gives, and how far it has come.
 -- This project's own choice.
-use Rattle.std.specs.Prelude.{◌≡◌, ◌⊎◌, ◌↔◌, ℕ, List, ◌++◌, Contains, IsTrue, IsFalse, take, Option}
+use Rattle.std.specs.Prelude.{◌≡◌, ◌⊎◌, ◌↔◌, ℕ, Bool, List, ◌++◌, Contains, IsTrue, IsFalse, take, Option}
 use Rattle.std.specs.Prelude.{Some, None}
 use Rattle.fb_values.specs.declared.facts.Datom.{Datom}
 use Rattle.fb_values.specs.declared.facts.Entry.{Entry}
@@ -25,6 +25,7 @@ use Rattle.fb_db.specs.declared.db.Db.{Db}
 use Rattle.fb_db.specs.Seen.{window_of}
 use Rattle.fb_scan.specs.declared.walk.Scan.{Scan}
 use Rattle.fb_scan.specs.Ends.{is_past, is_met, IsIn, IsWalk}
+use Rattle.fb_scan.specs.Knowing.{known_at}
 use Rattle.fb_scan.specs.Walks.{extent_of, shown}
 
 -- the lists can be read as one
@@ -74,14 +75,23 @@ pub record IsGoing (h : List Entry) (w : Window) (Selects : Datom → Type 0) (f
       → (Contains found d ⊎ IsGiven h w Selects extent from.order end rest d)
       ↔ (InView h w Selects d × IsTrue (is_met (facts h) from end d))
 
+-- the database value, where its window shows history or none
+abbrev pub showing : {S : Type 0} → Bool → Db S → Db S
+showing history db = record db { history = history }
+
+-- the scan knows whether the index holds the attribute at which it ends
+abbrev pub KnowsEnd : {S : Type 0} → Scan S → Type 0
+KnowsEnd scan = scan.known ≡ known_at scan.db.now.snapshot.entries scan.order scan.end
+
 -- a scan of the database value from the probe to the end has given the datoms,
 -- and gives the rest of them
 pub record HasGiven {S : Type 0} (db : Db S) (Selects : Datom → Type 0) (from : Probe)
     (end : End) (scan : Scan S) (found : List Datom) : Type 0 where
-  pub db_is : scan.db.now ≡ db
+  pub db_is : showing scan.history scan.db.now ≡ db
   pub order_is : scan.order ≡ from.order
   pub end_is : scan.end ≡ end
   pub inside : IsIn from.order end
+  pub knows : KnowsEnd scan
   pub going : IsGoing db.snapshot.entries (window_of db) Selects from end scan.extent found
       scan.walk
 

@@ -2,6 +2,7 @@
 ghost use Rattle.std.specs.Prelude.{◌≡◌};
 ghost use Rattle.std.specs.Option.{option_copied};
 ghost use Rattle.fb_scan.specs.Ends.{is_past};
+ghost use Rattle.fb_scan.specs.Knowing.{last_attribute};
 ghost use Rattle.fb_scan.specs.Steps.{last_read};
 
 use fb_index::Extent;
@@ -30,6 +31,16 @@ impl<'p> End<'p> {
                 End::Never => None,
                 End::Behind(probe) | End::Before(probe) => Some(probe),
             },
+        }
+    }
+
+    /// The attribute at which the scan ends.
+    pub(crate) fn attribute(self) -> Option<u64>
+        ensures { result ≡ last_attribute self.entry }
+    {
+        match self {
+            End::Never => None,
+            End::Behind(probe) | End::Before(probe) => probe.a,
         }
     }
 

@@ -1,6 +1,7 @@
 //! The scans of an index, whose datoms are lent. A probe cannot be wrong, and of an attribute that an index does not hold
 //! there is no datom in it, so a scan ends without an answer only if memory runs out.
-ghost use Rattle.std.specs.Prelude.{◌≡◌, IfOk, MatchOption, map};
+ghost use Rattle.std.specs.Prelude.{◌≡◌, List, take, IfOk, MatchOption, map};
+ghost use Rattle.fb_values.specs.declared.facts.Datom.{Datom as TheDatom};
 ghost use Rattle.fb_values.specs.declared.indexes.Order.TheVariants.{Avet};
 ghost use Rattle.view_model.specs.Scan.{IsScan, leading, not_below, between};
 ghost use Rattle.fb_db.specs.Seen.{window_of};
@@ -25,6 +26,22 @@ pub fn datoms<'a, S: Selector>(
         (map (λ d. d.now) ds.items)) }
 {
     lend(alloc, db, probe, End::Behind(probe), None)
+}
+
+/// The first of the datoms that have the probe's leading components, at most so many. No datom past the last of them is
+/// tested.
+pub fn first<'a, S: Selector>(
+    alloc: Global,
+    db: &'a Db<S>,
+    probe: &Probe,
+    most: usize,
+) -> Result<Vec<&'a Datom>, Memory>
+    ensures { (all : List TheDatom)
+        → IsScan db.now.snapshot.entries (window_of db.now) (S.selects db.now.filter)
+        probe.now.order (leading probe.now) all
+        → IfOk result (λ ds. map (λ d. d.now) ds.items ≡ take most all) }
+{
+    lend(alloc, db, probe, End::Behind(probe), Some(most))
 }
 
 /// The datoms from the first one that is not below the probe to the end of the index.

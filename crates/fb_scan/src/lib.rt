@@ -3,6 +3,8 @@
 
 mod attributes;
 mod ends;
+mod firsts;
+mod held;
 pub mod lent;
 mod scans;
 mod sight;
@@ -11,6 +13,7 @@ mod walk;
 
 pub use attributes::next_attribute;
 pub use ends::End;
+pub use firsts::{first_present, first_row};
 pub use lent::Bounds;
 pub use scans::{datoms, first, index_range, seek};
 pub use txs::{Txs, tx_range};

@@ -5,10 +5,8 @@ ghost use Rattle.fb_values.specs.declared.indexes.Order.TheVariants.{Avet};
 ghost use Rattle.view_model.specs.Scan.{IsScan, leading, not_below, between};
 ghost use Rattle.fb_db.specs.Seen.{window_of};
 
-use crate::ends::End;
 use crate::lent;
 use crate::lent::Bounds;
-use crate::walk::lend;
 use fb_db::Db;
 use fb_memory::Memory;
 use fb_preds::Selector;
@@ -37,7 +35,7 @@ pub fn first<S: Selector>(
         probe.now.order (leading probe.now) all
         → IfOk result (λ ds. ds ≡ take most all) }
 {
-    let found = lend(alloc, db, probe, End::Behind(probe), Some(most))?;
+    let found = lent::first(alloc, db, probe, most)?;
     copies(alloc, &found)
 }
 

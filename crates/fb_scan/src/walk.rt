@@ -4,14 +4,17 @@ ghost use Rattle.std.specs.List.{slice_get};
 ghost use Rattle.std.specs.Option.{option_copied};
 ghost use Rattle.fb_values.specs.declared.facts.Datom.{Datom as TheDatom};
 ghost use Rattle.fb_values.specs.declared.indexes.Probe.{Probe as TheProbe};
+ghost use Rattle.fb_model.specs.Facts.{facts};
+ghost use Rattle.fb_model.specs.Schema.{covers};
 ghost use Rattle.view_model.specs.Window.{Window};
 ghost use Rattle.fb_db.specs.Seen.{window_of};
 ghost use Rattle.fb_scan.specs.declared.ends.End.{End as TheEnd};
 ghost use Rattle.fb_scan.specs.Ends.{IsIn, IsWalk};
-ghost use Rattle.fb_scan.specs.Steps.{AreRead, HasGiven, IsWalkUpto};
+ghost use Rattle.fb_scan.specs.Steps.{AreRead, HasGiven, IsWalkUpto, KnowsEnd, showing};
 ghost use Rattle.fb_scan.specs.Walks.{is_shown};
 
 use crate::ends::End;
+use crate::held::{Known, holds};
 use crate::sight::{extent_of, sees};
 use fb_db::Db;
 use fb_index::{Extent, Sides, Walk};
@@ -24,9 +27,13 @@ use std::alloc::Global;
 #[derive(Drop)]
 pub struct Scan<'a, 'p, S> {
     db: &'a Db<S>,
+    /// Whether history is shown, in place of what the database value says.
+    history: bool,
     extent: Extent,
     order: Order,
     end: End<'p>,
+    /// What is known of the attribute at which it ends.
+    known: Option<Known>,
     /// What is left to read.
     walk: Walk<'a, 'p>,
 }
@@ -37,12 +44,28 @@ impl<'a, 'p, S: Selector> Scan<'a, 'p, S> {
         requires { IsIn from.now.order end }
         ensures { HasGiven db.now (S.selects db.now.filter) from.now end.entry result [] }
     {
-        let sides = sides(db, from.order);
+        Scan::showing(db, db.history, from, end)
+    }
+
+    /// The same scan, which shows history or none whatever the database value says.
+    pub(crate) fn showing(
+        db: &'a Db<S>,
+        history: bool,
+        from: &Probe,
+        end: End<'p>,
+    ) -> Scan<'a, 'p, S>
+        requires { IsIn from.now.order end }
+        ensures { HasGiven (showing history db.now) (S.selects db.now.filter) from.now end.entry
+            result [] }
+    {
+        let sides = sides(db, history, from.order);
         Scan {
             db,
+            history,
             extent: sides.extent,
             order: from.order,
             end,
+            known: Known::at(&db.snapshot, from.order, end),
             walk: sides.walk(from, end.last_read(sides.extent)),
         }
     }
@@ -56,17 +79,28 @@ impl<'a, 'p, S: Selector> Scan<'a, 'p, S> {
             (λ d. HasGiven db (S.selects db.filter) from end self.new (found ++ d.now ∷ [])) }
         ensures less { IfSome result (λ _. length self.new.walk < length self.old.walk) }
     {
-        let covers = self.db.snapshot.schema().covers();
         while let Some(datom) = self.walk.next() {
             if self.end.is_past(datom) {
                 return None;
             }
-            let held = covers.holds(self.order, datom.a);
-            if sees(self.db, self.extent, held, datom, self.following()) {
+            let held = self.holds(datom.a);
+            let next = self.following();
+            if sees(self.db, self.history, self.extent, held, datom, next) {
                 return Some(datom);
             }
         }
         None
+    }
+
+    /// Whether the index holds the attribute.
+    fn holds(&self, a: u64) -> bool
+        ensures { KnowsEnd self.now
+            → result ≡ covers (facts self.now.db.now.snapshot.entries) self.now.order a }
+    {
+        match self.known {
+            Some(known) if known.a == a => known.is_held,
+            _ => holds(&self.db.snapshot, self.order, a),
+        }
     }
 
     /// The datom beside which the window looks at the one before it. Where what holds is read, it looks at none.
@@ -107,8 +141,8 @@ pub fn lend<'a, S: Selector>(
 }
 
 /// The lists that a scan reads in an order.
-fn sides<S: Selector>(db: &Db<S>, order: Order) -> Sides<'_>
-    ensures { AreRead db.now.snapshot (window_of db.now) order result }
+fn sides<S: Selector>(db: &Db<S>, history: bool, order: Order) -> Sides<'_>
+    ensures { AreRead db.now.snapshot (window_of (showing history db.now)) order result }
 {
-    db.snapshot.sides(order, extent_of(db))
+    db.snapshot.sides(order, extent_of(db, history))
 }

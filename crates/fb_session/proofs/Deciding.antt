@@ -23,7 +23,8 @@ use Rattle.fb_desk.specs.declared.answers.Receipt.{Receipt}
 use Rattle.fb_desk.specs.declared.answers.TxFault.{TxFault}
 use Rattle.fb_desk.specs.declared.answers.TxFault.TheVariants.{Refused, LogFault, Stopped, Memory}
 use Rattle.fb_session.specs.declared.session.Session.{Session}
-use Rattle.fb_session.specs.Sessions.{Terms, over, HasStanding, Sees, Received, Denied, Transacts, Answered}
+use Rattle.fb_session.specs.Sessions.{over, HasStanding, Sees, Received, Denied, Transacts, Answered}
+use Rattle.fb_session.specs.Terms.{Terms}
 use Rattle.fb_session.proofs.Counting.{counted_accepted, counted_denied}
 
 -- ---- histories

@@ -16,7 +16,8 @@ use Rattle.fb_db.specs.Seen.{window_of}
 use Rattle.fb_reads.specs.Answers.{standing_at}
 use Rattle.fb_desk.specs.Desks.{State, GoesOn, glanced, loaded}
 use Rattle.fb_session.specs.declared.session.Session.{Session}
-use Rattle.fb_session.specs.Sessions.{Terms, over, HasStanding, Shows, KeepsCommit, sight, AnswersRead, Answered}
+use Rattle.fb_session.specs.Sessions.{over, HasStanding, Shows, KeepsCommit, sight, AnswersRead, Answered}
+use Rattle.fb_session.specs.Terms.{Terms}
 use Rattle.fb_session.specs.Asks.{Counted}
 use Rattle.fb_session.proofs.Counting.{counted_db, counted_sync, counted_read}
 use Rattle.fb_session.proofs.Deciding.{upto-basis, grown, still_told, stands_behind}

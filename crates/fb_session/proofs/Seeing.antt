@@ -17,7 +17,8 @@ use Rattle.fb_desk.specs.Desks.{State, WentOn, GoesOn, IsReceipt, IsRefusal, IsL
 use Rattle.fb_desk.specs.declared.answers.Receipt.{Receipt}
 use Rattle.fb_desk.specs.declared.answers.TxFault.TheVariants.{Refused, LogFault, Stopped}
 use Rattle.fb_session.specs.declared.session.Session.{Session}
-use Rattle.fb_session.specs.Sessions.{Terms, Sees, Shows, KeepsCommit, Received, Denied, HasStanding, Answered, Unanswered}
+use Rattle.fb_session.specs.Sessions.{Sees, Shows, KeepsCommit, Received, Denied, HasStanding, Answered, Unanswered}
+use Rattle.fb_session.specs.Terms.{Terms}
 
 -- a desk that was not asked
 pub went_on-nothing : (desk : State) → WentOn desk desk

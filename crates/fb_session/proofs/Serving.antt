@@ -15,7 +15,8 @@ use Rattle.fb_session.specs.declared.reading.ReadStop.TheVariants as stopped
 use Rattle.fb_session.specs.Taken.{TakesAll, TakesSome}
 use Rattle.fb_session.specs.Replies.{AnswersSome, SessionRun, Replies}
 use Rattle.fb_session.specs.Asks.{Asks}
-use Rattle.fb_session.specs.Sessions.{Terms, over, IsPastReading, Talks}
+use Rattle.fb_session.specs.Sessions.{over, IsPastReading, Talks}
+use Rattle.fb_session.specs.Terms.{Terms}
 use Rattle.fb_session.proofs.KnownBytes.{append_known-none}
 use Rattle.fb_session.proofs.Seeing.{went_on-nothing}
 use Rattle.fb_session.proofs.Counting.{counted-none}

@@ -32,7 +32,8 @@ use Rattle.fb_session.specs.declared.serve.AnswerError.{AnswerError}
 use Rattle.fb_session.specs.declared.serve.AnswerError.TheVariants.{WriteFault, Memory}
 use Rattle.fb_session.specs.Replies.{trace_of, AnswersAll, AnswersSome, AnswersUpTo, Answers, SinkCount}
 use Rattle.fb_session.specs.Asks.{Counted, Asks}
-use Rattle.fb_session.specs.Sessions.{Terms, over, IsOpened, KeepsCommit, Answered, Replied, RepliedPart, RepliedNothing, StopsAt, end_of}
+use Rattle.fb_session.specs.Sessions.{over, IsOpened, KeepsCommit, Answered, Replied, RepliedPart, RepliedNothing, StopsAt, end_of}
+use Rattle.fb_session.specs.Terms.{Terms}
 use Rattle.fb_session.specs.Sessions.{TalkSoFar, NoCommand, IsPastReading, served_by, Talks}
 use Rattle.fb_session.proofs.KnownBytes.{append_known-none, append_known-append}
 use Rattle.fb_session.proofs.Seeing.{went_on-nothing}

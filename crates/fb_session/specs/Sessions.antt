@@ -1,7 +1,7 @@
 -- What a session keeps while it answers forms: what its reads see, and what it answered so far.
 -- This project's own choice.
 use Rattle.std.specs.Prelude.{◌≡◌, ◌≢◌, ℕ, ℤ, ◌<◌, ◌≤◌, ◌⊎◌, Bool, true, List, [], ◌∷◌, ◌++◌}
-use Rattle.std.specs.Prelude.{Option, Some, None, is_some, option_to_list, length, codes}
+use Rattle.std.specs.Prelude.{Option, Some, None, option_to_list, length, codes}
 use Rattle.std.specs.List.{concat, last_or}
 use Rattle.std.specs.Io.KnownBytes.{prepend_known, append_known}
 use Rattle.edn_model.specs.Form.{Form}
@@ -24,7 +24,6 @@ use Rattle.talk_model.specs.Talk.{IsAnswered, Exchange, forms_of, places_of, lin
 use Rattle.talk_model.specs.Talk.{Talk}
 use Rattle.talk_model.specs.Prefixes.{SeesAll}
 use Rattle.fb_ports.specs.Faults.{Rose}
-use Rattle.fb_preds.specs.Naming.{selected_by}
 use Rattle.fb_db.specs.Seen.{window_of}
 use Rattle.fb_db.specs.declared.db.Db.{Db}
 use Rattle.fb_reads.specs.Answers.{IsLineFor, standing_at}
@@ -32,6 +31,7 @@ use Rattle.fb_desk.specs.Desks.{State, WentOn, IsReceipt, IsFault, loaded}
 use Rattle.fb_desk.specs.declared.answers.Receipt.{Receipt}
 use Rattle.fb_desk.specs.declared.answers.TxFault.{TxFault}
 use Rattle.fb_desk.specs.declared.answers.TxFault.TheVariants as fault
+use Rattle.fb_session.specs.Terms.{Terms}
 use Rattle.fb_session.specs.declared.outcome.Served.{Served}
 use Rattle.fb_session.specs.declared.outcome.SessionEnd.{SessionEnd}
 use Rattle.fb_session.specs.declared.outcome.SessionEnd.TheVariants as ended
@@ -43,25 +43,6 @@ use Rattle.fb_session.specs.Replies.{Answers}
 use Rattle.fb_session.specs.Asks.{Counted, Asks}
 
 -- ---- what it is answered by
-
--- the terms of its answers, which stay as they are while it talks
-pub record Terms : Type 1 where
-  pub may : ℤ → Type 0
-  pub guard : Guard
-  pub is_filter : List ℕ → Bool
-  pub Selects : List ℕ → Datom → Type 0
-
--- Those at a clock, at a guard, and at a table of filters:
--- where a name finds the filter at a place, if it finds one, and this is what that filter selects.
-abbrev pub terms_at : {K G P : Type 0} → (K → ℤ → Type 0) → (G → Guard)
-    → (P → List ℕ → Option ℕ) → (P → ℕ → Datom → Type 0) → K → G → P → Terms
-terms_at may bars place_of SelectsAt clock guard table =
-    record {
-      may = may clock;
-      guard = bars guard;
-      is_filter = λ name. is_some (place_of table name);
-      Selects = selected_by (place_of table) (SelectsAt table);
-    }
 
 -- with what its desk was answered by now
 abbrev pub over : Terms → State → Setting

@@ -9,7 +9,8 @@ ghost use Rattle.talk_model.specs.Replies.{basis_reply, IsLineOf};
 ghost use Rattle.fb_preds.specs.Naming.{selected_by};
 ghost use Rattle.fb_commands.specs.View.{model_read};
 ghost use Rattle.fb_desk.specs.Desks.{GoesOn, glanced, loaded};
-ghost use Rattle.fb_session.specs.Sessions.{terms_at, HasStanding, Shows, KeepsCommit, LoadsOnceAtMost, AnswersRead, Answered, Unanswered};
+ghost use Rattle.fb_session.specs.Sessions.{HasStanding, Shows, KeepsCommit, LoadsOnceAtMost, AnswersRead, Answered, Unanswered};
+ghost use Rattle.fb_session.specs.Terms.{terms_at};
 
 use crate::session::Session;
 use edn_form::Edn;

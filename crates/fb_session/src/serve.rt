@@ -10,7 +10,8 @@ ghost use Rattle.talk_model.specs.Session.{Standing};
 ghost use Rattle.fb_desk.specs.Desks.{GoesOn, WentOn};
 ghost use Rattle.fb_session.specs.Asks.{Asks};
 ghost use Rattle.fb_session.specs.Replies.{Replies, SourceCount, SinkCount};
-ghost use Rattle.fb_session.specs.Sessions.{terms_at, over, HasStanding, IsOpened, Replied, StopsAt, StopCount, end_of, IsCommand, NoCommand, served_by, Talks};
+ghost use Rattle.fb_session.specs.Sessions.{over, HasStanding, IsOpened, Replied, StopsAt, StopCount, end_of, IsCommand, NoCommand, served_by, Talks};
+ghost use Rattle.fb_session.specs.Terms.{terms_at};
 
 use crate::outcome::{Served, SessionEnd};
 use crate::reading::{ReadStop, read_script};

@@ -8,6 +8,7 @@ mod ends;
 mod gates;
 mod settling;
 mod working;
+mod worth;
 
 pub use bases::base_of;
 pub use ends::WorkEnd;

@@ -14,6 +14,7 @@ use crate::bases::{merged_base, start};
 use crate::catching_up::{catch_up, take_latest};
 use crate::ends::WorkEnd;
 use crate::gates::{Gate, Point};
+use crate::worth::worth_of;
 use fb_conn::{Bell, Conn, Seat};
 use fb_log::Log;
 use fb_memory::Memory;
@@ -25,9 +26,9 @@ use std::thread::Threads;
 /// After so many turns a seat has no two left.
 const MOST_TURNS: u64 = 4_294_967_294;
 
-/// Merges whenever a merge is due, until no session is left and none is due. The trees of a merge are kept before the sessions get
-/// them. A merge starts from the trees `ahead`, if there are any, which are not adopted yet, and else from the base. Trees that
-/// were kept and could not be adopted are ahead afterwards. Where nothing is due it sleeps until it is rung.
+/// Merges whenever a merge is due and worth what it writes; once no session is left, until none is due. The trees of a merge are kept
+/// before the sessions get them. A merge starts from the trees `ahead`, if there are any, which are not adopted yet, and else from the
+/// base. Trees that were kept and could not be adopted are ahead afterwards. Where there is nothing to merge it sleeps until it is rung.
 pub fn work<L: Log, T: RootStore, R: Threads + Wait + Sync, G: Gate>(
     rt: &R,
     alloc: Global,
@@ -70,7 +71,8 @@ pub fn work<L: Log, T: RootStore, R: Threads + Wait + Sync, G: Gate>(
 {
     let mut shut = false;
     for _ in rt.forever() {
-        let merged = match round(rt, alloc, conn, seat, store, base, ahead, gate) {
+        let worth = worth_of(start(base, ahead), shut);
+        let merged = match round(rt, alloc, conn, seat, store, base, ahead, worth, gate) {
             Ok(merged) => merged,
             Err(end) => return end,
         };
@@ -83,6 +85,7 @@ pub fn work<L: Log, T: RootStore, R: Threads + Wait + Sync, G: Gate>(
         if shut {
             return WorkEnd::Shut;
         }
+        conn.ring_from(worth);
         if let Bell::Shut = conn.wait(rt) {
             shut = true;
         }
@@ -97,7 +100,7 @@ pub(crate) fn is_out_of_turns(seat: &Seat) -> bool
     seat.draws() > MOST_TURNS
 }
 
-/// Looks at the latest value, and merges it where that is due. It says whether it did.
+/// Looks at the latest value, and merges it where that is due and `worth` of its datoms are live. It says whether it did.
 fn round<L: Log, T: RootStore, R: Threads + Wait + Sync, G: Gate>(
     rt: &R,
     alloc: Global,
@@ -106,6 +109,7 @@ fn round<L: Log, T: RootStore, R: Threads + Wait + Sync, G: Gate>(
     store: &mut T,
     base: &mut Base,
     ahead: &mut Option<Base>,
+    worth: u64,
     gate: &G,
 ) -> Result<bool, WorkEnd>
     requires seat { IsWorkerOf conn.now seat.old }
@@ -124,7 +128,7 @@ fn round<L: Log, T: RootStore, R: Threads + Wait + Sync, G: Gate>(
         → AreOldOrKept (T.keeps begun) ahead.old store.new ahead.new }
     ensures fits { (IsErrOf result WorkEnd.StoreFault → ⊥)
         → T.fits store.new (start_of base.new ahead.new).roots }
-    ensures not_due { IfOk result (λ merged. IsFalse merged
+    ensures not_due { IfOk result (λ merged. IsFalse merged → worth ≡ 0
         → IsFalse (is_due conn.now.merge_at seat.new.last)) }
     ensures end { IfErr result (HasCause (Rose (T.faults store.old) (T.faults store.new))
         (IsSpent conn.now.merge_at (view_of seat.new.board) seat.new.last (T.next store.new)
@@ -133,29 +137,38 @@ fn round<L: Log, T: RootStore, R: Threads + Wait + Sync, G: Gate>(
         → ((begun : T) → T.goes begun store.old → T.goes begun store.new)
         × (T.faults store.new ≡ T.faults store.old) }
 {
-    if !begins(rt, conn, seat)? {
+    if !begins(rt, conn, seat, worth)? {
         return Ok(false);
     }
     merge_last(rt, alloc, conn, seat, store, base, ahead, gate)?;
     Ok(true)
 }
 
-/// Takes the first turn of a round. It says whether the latest value, which the seat has from then on, is due.
-fn begins<L: Log, R: Wait>(rt: &R, conn: &Conn<L>, seat: &mut Seat) -> Result<bool, WorkEnd>
+/// Takes the first turn of a round. It says whether the latest value, which the seat has from then on, is to be merged: whether it
+/// is due, and worth it.
+fn begins<L: Log, R: Wait>(
+    rt: &R,
+    conn: &Conn<L>,
+    seat: &mut Seat,
+    worth: u64,
+) -> Result<bool, WorkEnd>
     requires seat { IsWorkerOf conn.now seat.old }
     ensures seat { IsWorkerOf conn.now seat.new }
     ensures same { IsSameWorker (view_of seat.old.board) (view_of seat.new.board) }
     ensures covered { (view_of seat.new.board).covered ≡ (view_of seat.old.board).covered }
     ensures trees { AreStill seat.old.last.entries seat.new.last.entries }
     ensures turn { OnOk result ((view_of seat.new.board).draws < 4294967296) }
-    ensures due { IfOk result (λ due. due ≡ is_due conn.now.merge_at seat.new.last) }
+    ensures due { IfOk result
+        (λ begins. IsTrue begins → IsTrue (is_due conn.now.merge_at seat.new.last)) }
+    ensures not_due { IfOk result (λ begins. IsFalse begins → worth ≡ 0
+        → IsFalse (is_due conn.now.merge_at seat.new.last)) }
     ensures end { IfErr result (HasCause ⊥ (IsOutOfTurns (view_of seat.new.board))) }
 {
     if is_out_of_turns(seat) {
         return Err(WorkEnd::Spent);
     }
     let latest = take_latest(rt, conn, seat)?;
-    Ok(conn.due(&latest))
+    Ok(conn.due(&latest) && latest.live_len() >= worth)
 }
 
 /// Merges the seat's last value. Its trees are kept, and then adopted.

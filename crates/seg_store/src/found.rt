@@ -4,7 +4,6 @@ ghost use Rattle.seg_store.specs.Finding.{HasFound};
 
 use crate::loads::KeptTrees;
 use fb_codec::BytesFault;
-use fb_journal::Payloads;
 use fb_memory::Memory;
 use seg_codec::{Nodes, is_bad_front, record_of};
 use std::alloc::Global;
@@ -66,16 +65,5 @@ impl Found {
         let bad = is_bad_front(alloc, front, &mut self.nodes)?;
         self.good = !bad;
         Ok(bad)
-    }
-
-    /// What payloads keep.
-    pub(crate) fn of(alloc: Global, payloads: &Payloads) -> Result<Found, Memory>
-        ensures { IfOk result (HasFound payloads.now) }
-    {
-        let mut found = Found::none(alloc);
-        for n in 0..payloads.len() {
-            found.add(alloc, payloads.at(n))?;
-        }
-        Ok(found)
     }
 }

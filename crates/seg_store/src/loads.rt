@@ -4,8 +4,8 @@ ghost use Rattle.disk_model.specs.Disk.{IfKnown};
 ghost use Rattle.disk_model.specs.Journal.{segments_mark};
 ghost use Rattle.log_model.specs.Kept.{FileKeeps};
 ghost use Rattle.fb_journal.specs.Journals.{StaysKnown};
-ghost use Rattle.fb_journal.specs.Readings.{disk_from, left_in, HasRead};
-ghost use Rattle.fb_journal.specs.Starts.{CountsStart, IsWhyNot};
+ghost use Rattle.fb_journal.specs.Readings.{disk_from, left_in, HasRead, IsFirstFault};
+ghost use Rattle.fb_journal.specs.Starts.{CountsStart};
 ghost use Rattle.fb_journal.specs.declared.starts.StartFault.{StartFault};
 ghost use Rattle.seg_store.specs.Stores.{disk_in, StoreKeeps};
 ghost use Rattle.seg_store.specs.Loads.{kept_of, IsLoaded, CountsLoad};
@@ -132,7 +132,7 @@ fn loaded_behind<D: Disk>(
 /// What a journal says that did not start.
 fn loaded_before<D: Disk>(alloc: Global, stop: StartStop<D>) -> Result<Loaded<D>, LoadStop<D>>
     ensures loaded { IfOk result (λ loaded. (told : Option (List ℕ))
-        → IsWhyNot segments_mark told stop.fault stop.before
+        → IsFirstFault segments_mark told [] stop.fault
         → IsLoaded D.bytes D.images told loaded) }
     ensures known { IfOk result (λ loaded. (told : Option (List ℕ))
         → ((nth at : ℕ) → stop.fault ≡ StartFault.BadLog nth at → D.bytes stop.disk ≡ told)
@@ -141,16 +141,10 @@ fn loaded_before<D: Disk>(alloc: Global, stop: StartStop<D>) -> Result<Loaded<D>
         → MatchResult result (λ loaded. D.faults (disk_in loaded.store) ≡ old)
         (λ stopped. CountsLoad stopped.fault old (D.faults stopped.disk)) }
 {
-    let StartStop {
-        fault,
-        disk,
-        before,
-    } = stop;
+    let StartStop { fault, disk } = stop;
     let fault = match fault {
-        StartFault::BadLog { .. } => match Found::of(alloc, &before) {
-            Ok(found) => return anew(alloc, disk, found.kept),
-            Err(Memory) => LoadFault::Memory,
-        },
+        // It begins with another mark, and no record was read.
+        StartFault::BadLog { .. } => return anew(alloc, disk, Vec::new(alloc)),
         StartFault::Disk => LoadFault::Disk,
         StartFault::Memory => LoadFault::Memory,
     };
@@ -167,7 +161,7 @@ fn anew<D: Disk>(alloc: Global, disk: D, kept: Vec<KeptTrees>) -> Result<Loaded<
         (λ loaded. D.faults (disk_in loaded.store) ≡ D.faults disk)
         (λ stop. CountsLoad stop.fault (D.faults disk) (D.faults stop.disk)) }
 {
-    match Journal::anew(alloc, disk, Mark::Segments) {
+    match Journal::anew(disk, Mark::Segments) {
         Ok(journal) => {
             let ids = Ids::new(alloc);
             let store = SegStore { journal, ids };

@@ -8,7 +8,7 @@ ghost use Rattle.test_board.specs.Books.{IsSameSeat, IsHired, IsDone, IsSoundBoo
 use crate::book::{Book, Page};
 use crate::rounds::round;
 use board_mail::{Mail, peek};
-use board_rule::{Board, BoardSeat, BoardStop, Mails, step_join, step_split};
+use board_rule::{Board, BoardSeat, BoardStop, Mails, Patience, step_join, step_split};
 use fb_memory::Memory;
 use std::alloc::Global;
 use std::sync::Wait;
@@ -197,6 +197,12 @@ fn gather(board: &Board<Book, Page>, first: &mut BoardSeat, mut workers: Vec<Wor
     (added, fell)
 }
 
+/// Little, so that seats sleep often. In every other book two are awake.
+fn patience_of(serial: u32) -> Patience {
+    let one = Patience::on(1);
+    if serial % 2 == 0 { one } else { one.of_both() }
+}
+
 /// A board over a book of this serial number, which has the number 0 alone, with that many sessions, and its first seat.
 pub fn open(
     alloc: Global,
@@ -212,8 +218,9 @@ pub fn open(
         × ((view_of r.1).given ≡ 0)
         × ((view_of r.1).seats ≡ 1)) }
 {
-    let pages = Page::copies(alloc, sessions as usize, &[0])?;
-    match Board::new(alloc, Book::new(alloc, serial, 0)?, 0, Mails::of(pages)) {
+    let pages = Mails::of(Page::copies(alloc, sessions as usize, &[0])?);
+    let book = Book::new(alloc, serial, 0)?;
+    match Board::new(alloc, book, 0, pages, patience_of(serial)) {
         Ok(made) => Ok(made),
         Err(BoardStop { home: _ }) => Err(Memory),
     }

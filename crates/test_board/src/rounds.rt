@@ -133,7 +133,10 @@ pub fn put_one(
         × IsSameSeat (view_of seat.old) (view_of seat.new) }
 {
     let page = Page::of(alloc, held.home.entries.as_slice())?;
-    Ok(put(board, seat, held, session, page))
+    match put(board, seat, held, session, page) {
+        Ok(_) => Ok(true),
+        Err(_) => Ok(false),
+    }
 }
 
 /// Adds a number to the book in a turn of its own. `Ok(false)` where adding was stopped.

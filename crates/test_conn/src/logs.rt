@@ -22,7 +22,7 @@ impl Log for CountingLog {
 
     ghost broke = { λ _ _ _ _. Unit {0} };
 
-    fn record(&self, _alloc: Global, entry: &Entry) -> Result<u64, Memory> {
+    fn record(_alloc: Global, entry: &Entry) -> Result<u64, Memory> {
         Ok(u64::from(entry.t))
     }
 
@@ -32,5 +32,9 @@ impl Log for CountingLog {
         }
         self.records = self.records.saturating_add(1);
         Ok(())
+    }
+
+    fn add_beside(&mut self, made: &u64, _next: u64) -> Result<(), Failed> {
+        self.add(made)
     }
 }

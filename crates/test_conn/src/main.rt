@@ -11,6 +11,7 @@ mod logs;
 mod model;
 mod orders;
 mod runs;
+mod stores;
 
 use anyhow::Result;
 use calls::Call;

@@ -13,10 +13,11 @@ use crate::forms::Forms;
 use crate::logs::CountingLog;
 use crate::model::{Counts, Model, halt_of};
 use crate::orders::Script;
+use crate::stores::NoStore;
 use anyhow::{Result, bail};
-use fb_conn::{Closed, Conn, Made, Seat};
+use fb_conn::{Closed, Conn, Made, Patience, Seat};
 use fb_core::{Core, CoreParts, Draft};
-use fb_roots::{Base, NoStore};
+use fb_roots::Base;
 use fb_view::Snapshot;
 use merge_worker::{OpenGate, WorkEnd, base_of, work};
 use std::alloc::Global;
@@ -25,6 +26,9 @@ use std::thread::Threads;
 
 /// How many orders there may be of the calls of both sessions.
 const ORDERS: u32 = 256;
+
+/// As on a machine of four processors.
+const PROCESSORS: usize = 4;
 
 /// The records at which the log fails, and the number of one that never comes.
 const FAILURES: &[u64] = &[1, 2, 3, 1000];
@@ -95,7 +99,7 @@ fn serve<R: Threads + Wait + Sync>(
             mut seats,
             mut worker,
         },
-    ) = Conn::new(alloc, core, log, 2, 1)
+    ) = Conn::new(alloc, core, log, 2, 1, Patience::on(PROCESSORS))
     else {
         bail!("out of memory");
     };

@@ -15,38 +15,28 @@ const PAYLOADS: &[&[u8]] = &[b"hi", b"", b"x"];
 const FILE: &str =
     "FACTBASE LOG 1\n\x01\0\0\0\0\0\0\0\x02hi\x01\0\0\0\0\0\0\0\0\x01\0\0\0\0\0\0\0\x01x\0";
 
-/// Starts the log of the directory, and adds a record. It says how many records there were, or `None` where a call fails.
-fn add<H: Host>(
-    host: &mut H,
-    alloc: Global,
-    dir: &str,
-    payload: &[u8],
-) -> Result<Option<usize>, Memory> {
-    let framed = frame(alloc, payload)?;
+/// Begins a log in the directory, and adds a record for each payload. It says whether all calls succeed.
+fn add_all<H: Host>(host: &mut H, alloc: Global, dir: &str) -> Result<bool, Memory> {
     let Ok(disk) = host.disk(alloc, dir, Part::Log) else {
-        return Ok(None);
+        return Ok(false);
     };
-    match Journal::start(alloc, disk, Mark::Log) {
-        Ok((mut journal, payloads)) => {
-            let count = payloads.len();
-            Ok(if journal.append(&framed).is_ok() {
-                Some(count)
-            } else {
-                None
-            })
+    let Ok(mut journal) = Journal::anew(disk, Mark::Log) else {
+        return Ok(false);
+    };
+    for payload in PAYLOADS {
+        let framed = frame(alloc, payload)?;
+        if journal.append(&framed).is_err() {
+            return Ok(false);
         }
-        Err(_) => Ok(None),
     }
+    Ok(true)
 }
 
 #[test]
 fn a_log_in_a_file_has_the_documented_bytes(rt: HostRuntime) -> Result<(), Fail> {
     std::fs::create_dir(&rt, "journal")?;
     let mut host = RealHost::new(rt);
-    for (n, payload) in PAYLOADS.iter().enumerate() {
-        let count = add(&mut host, rt.alloc(), "journal", payload)?;
-        assert_eq!(rt; count, Some(n));
-    }
+    assert!(rt; add_all(&mut host, rt.alloc(), "journal")?);
     let file = std::fs::read_to_string(&rt, "journal/log")?;
     assert_eq!(rt; file.as_str(), FILE);
     std::fs::remove_file(&rt, "journal/log")?;
@@ -62,19 +52,27 @@ fn is_reset_and_goes_on(journal: &mut Journal<MemDisk>, framed: &Framed) -> bool
         && journal.append(framed).is_ok()
 }
 
-/// How many records the log of the disk has.
-fn count_in(alloc: Global, disk: MemDisk) -> Option<usize> {
-    match Journal::start(alloc, disk, Mark::Log) {
-        Ok((_, payloads)) => Some(payloads.len()),
-        Err(_) => None,
+/// How many records the log of the disk has, if there are fewer than ten.
+fn count_in(alloc: Global, disk: MemDisk) -> Option<u32> {
+    let Ok(mut reading) = Journal::open(alloc, disk, Mark::Log) else {
+        return None;
+    };
+    let mut payload = Vec::new(alloc);
+    for count in 0..10 {
+        match reading.next(&mut payload) {
+            Ok(Some(_)) => {}
+            Ok(None) => return Some(count),
+            Err(_) => return None,
+        }
     }
+    None
 }
 
-/// How many records a journal has that is begun and emptied, and goes on, and is given back and started.
-fn count_after_a_reset(alloc: Global) -> Result<Option<usize>, Memory> {
+/// How many records a journal has that is begun and emptied, and goes on, and is given back and read.
+fn count_after_a_reset(alloc: Global) -> Result<Option<u32>, Memory> {
     let framed = frame(alloc, b"hi")?;
     let disk = MemDisk::new(alloc, 1_000, Vec::new(alloc))?;
-    let Ok(mut journal) = Journal::anew(alloc, disk, Mark::Log) else {
+    let Ok(mut journal) = Journal::anew(disk, Mark::Log) else {
         return Ok(None);
     };
     let is_added = is_reset_and_goes_on(&mut journal, &framed);
@@ -85,6 +83,39 @@ fn count_after_a_reset(alloc: Global) -> Result<Option<usize>, Memory> {
 #[test]
 fn a_journal_goes_on_after_a_reset(rt: HostRuntime) -> Result<(), Fail> {
     assert_eq!(rt; count_after_a_reset(rt.alloc())?, Some(2));
+    Ok(())
+}
+
+/// A payload that is laid beside the first record, the one that is added then, and how many calls of the disk that takes: the
+/// gate and a sync alone, where the record lies there.
+const ADDED: &[(&[u8], &[u8], u32)] = &[
+    (b"x", b"x", 2),
+    (b"x", b"y", 4),
+    (b"x", b"xy", 4),
+    (b"xy", b"x", 4),
+];
+
+/// The calls of the disk until then: four that begin the journal, and five that add the first record and lay another one.
+const BEFORE: u64 = 9;
+
+/// Whether the second record is added where the call of this number fails.
+fn adds_laid(alloc: Global, laid: &[u8], payload: &[u8], fails: u64) -> Result<bool, Memory> {
+    let (first, next) = (frame(alloc, b"hi")?, frame(alloc, laid)?);
+    let second = frame(alloc, payload)?;
+    let disk = MemDisk::new(alloc, 1_000, vec![in alloc; fails; 1]?)?;
+    let Ok(mut journal) = Journal::anew(disk, Mark::Log) else {
+        return Ok(false);
+    };
+    Ok(journal.append_beside(&first, Some(next)).is_ok() && journal.append(&second).is_ok())
+}
+
+#[test]
+fn a_record_that_lies_there_takes_one_sync(rt: HostRuntime) -> Result<(), Fail> {
+    for (laid, payload, calls) in ADDED {
+        let last = BEFORE + u64::from(*calls);
+        assert!(rt; !adds_laid(rt.alloc(), laid, payload, last)?);
+        assert!(rt; adds_laid(rt.alloc(), laid, payload, last + 1)?);
+    }
     Ok(())
 }
 
@@ -103,7 +134,7 @@ fn add_runs<H: Host>(host: &mut H, alloc: Global, dir: &str) -> Result<bool, Mem
     let Ok(disk) = host.disk(alloc, dir, Part::Log) else {
         return Ok(false);
     };
-    let Ok(mut journal) = Journal::anew(alloc, disk, Mark::Log) else {
+    let Ok(mut journal) = Journal::anew(disk, Mark::Log) else {
         return Ok(false);
     };
     for (byte, count) in RUNS {

@@ -4,8 +4,6 @@
 #![tactic(auto)]
 
 #[cfg(test)]
-mod edn_duplicates_tests;
-#[cfg(test)]
 mod edn_form_tests;
 #[cfg(test)]
 mod fb_memory_tests;

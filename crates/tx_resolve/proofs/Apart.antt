@@ -1,16 +1,13 @@
 -- No tempid is met twice.
-use Rattle.std.proofs.Common.{◌≡◌, ℕ, Bool, true, false, ◌||◌, List, [], ◌∷◌, ◌++◌, cond, refl, ap, ◌∙◌}
-use Rattle.std.specs.Prelude.{Some, None, ⊤}
+use Rattle.std.proofs.Common.{◌≡◌, ℕ, zero, suc, Bool, true, false, ◌||◌, List, [], ◌∷◌, ◌++◌, cond, slice_get, refl, sym, ap, ◌∙◌, arith}
+use Rattle.std.specs.Prelude.{Option, Some, ⊤, nat_eq}
 use Rattle.std.specs.List.{list_any}
 use Rattle.std.proofs.lemmas.Bool.{or_parts, or_from}
 use Rattle.std.proofs.lemmas.List.Folds.{list_any-append}
-use Rattle.tx_resolve.specs.declared.whom.Tempid.{Tempid}
-use Rattle.tx_resolve.specs.declared.drafts.Draft.{Draft}
-use Rattle.tx_resolve.specs.Tempids.{is_same}
+use Rattle.tx_resolve.specs.Tempids.{Tempid, is_same}
 use Rattle.tx_resolve.specs.Meeting.{met_with}
-use Rattle.tx_resolve.specs.Holders.{holders, held_of}
-use Rattle.tx_resolve.specs.Numbers.{numbered, entity_next, number_next, entity_for, AreApart}
-use Rattle.tx_resolve.proofs.Alike.{same_back}
+use Rattle.tx_resolve.proofs.Alike.{same_back, same_itself}
+use Rattle.tx_resolve.proofs.Options.{none_not, same_some}
 
 abbrev pub AreDistinct : List Tempid → Type 0
 AreDistinct [] = ⊤
@@ -34,18 +31,32 @@ distinct_met met (t ∷ ts) apart =
     by_test true is = apart
     by_test false is = distinct_push met t apart is
 
-not_numbered : (drafts : List Draft) (ts : List Tempid) (n : ℕ) (t : Tempid) → list_any (is_same t) ts ≡ false
-    → entity_for (numbered drafts ts n) t ≡ None
-not_numbered drafts [] n t new = refl
-not_numbered drafts (x ∷ ts) n t new =
-    let parts = or_parts (is_same t x) (list_any (is_same t) ts) new in
-    let first = (held_of (holders drafts x)).first in
-    let rest = entity_for (numbered drafts ts (number_next first n)) t in
-    ap (λ b. cond b (Some (entity_next first n)) rest) (same_back x t ∙ parts.0)
-    ∙ not_numbered drafts ts (number_next first n) t parts.1
+-- ---- two of them are the same where their places are
 
-pub apart_numbered : (drafts : List Draft) (ts : List Tempid) (n : ℕ) → AreDistinct ts → AreApart (numbered drafts ts n)
-apart_numbered drafts [] n apart = tt
-apart_numbered drafts (t ∷ ts) n apart =
-    let next = number_next (held_of (holders drafts t)).first n in
-    (not_numbered drafts ts next t apart.0, apart_numbered drafts ts next apart.1)
+pub next_same : (p q : ℕ) → nat_eq p q ≡ nat_eq (suc p) (suc q)
+next_same p q = grind arith
+
+pub first_no_next : (q : ℕ) → nat_eq 0 (suc q) ≡ false
+first_no_next q = grind arith
+
+next_no_first : (q : ℕ) → nat_eq (suc q) 0 ≡ false
+next_no_first q = grind arith
+
+first_first : nat_eq 0 0 ≡ true
+first_first = refl
+
+none_later : (f : Tempid → Bool) (ts : List Tempid) (p : ℕ) (t : Tempid) → list_any f ts ≡ false → slice_get ts p ≡ Some t → f t ≡ false
+none_later f [] p t none is = none_not is
+none_later f (x ∷ ts) zero t none is = ap f (sym (same_some is)) ∙ (or_parts (f x) (list_any f ts) none).0
+none_later f (x ∷ ts) (suc p) t none is = none_later f ts p t (or_parts (f x) (list_any f ts) none).1 is
+
+pub same_places : (ts : List Tempid) → AreDistinct ts → (p q : ℕ) (t u : Tempid) → slice_get ts p ≡ Some t → slice_get ts q ≡ Some u
+    → is_same t u ≡ nat_eq p q
+same_places [] apart p q t u is are = none_not is
+same_places (x ∷ ts) apart zero zero t u is are =
+    ap (λ y. is_same y u) (sym (same_some is)) ∙ ap (is_same x) (sym (same_some are)) ∙ same_itself x
+same_places (x ∷ ts) apart zero (suc q) t u is are =
+    ap (λ y. is_same y u) (sym (same_some is)) ∙ none_later (is_same x) ts q u apart.0 are ∙ sym (first_no_next q)
+same_places (x ∷ ts) apart (suc p) zero t u is are =
+    ap (is_same t) (sym (same_some are)) ∙ same_back t x ∙ none_later (is_same x) ts p t apart.0 is ∙ sym (next_no_first p)
+same_places (x ∷ ts) apart (suc p) (suc q) t u is are = same_places ts apart.1 p q t u is are ∙ next_same p q

@@ -1,13 +1,13 @@
 pub mod Alike
 pub mod Drops
-pub mod Results
+pub mod Options
 pub mod Meetings
-pub mod Holding
-pub mod Numbering
+pub mod InOrder
+pub mod Newly
 pub mod Apart
+pub mod Keeping
 pub mod ActLists
 pub mod Places
-pub mod Options
 pub mod Lookups
 pub mod Relates
 pub mod Asked

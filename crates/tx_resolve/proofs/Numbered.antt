@@ -1,28 +1,26 @@
 -- The tempids of a transaction in order, and their entities.
-use Rattle.std.proofs.Common.{◌≡◌, ℕ, ◌+◌, Bool, true, false, not, ◌&&◌, ◌||◌, cond, List, [], ◌∷◌, ◌++◌, map, append_assoc, refl, sym, ap}
-use Rattle.std.proofs.Common.{◌∙◌}
-use Rattle.std.specs.Prelude.{Some, ⊤, is_some, filter_map}
-use Rattle.std.specs.List.{list_any, cons_option}
+use Rattle.std.proofs.Common.{◌≡◌, ℕ, zero, suc, ◌+◌, ◌≤◌, Bool, true, false, not, ◌&&◌, ◌||◌, cond, List, [], ◌∷◌, ◌++◌, map, append_assoc}
+use Rattle.std.proofs.Common.{length, slice_get, refl, sym, ap, ◌∙◌, arith, add-zero, zero-add}
+use Rattle.std.specs.Prelude.{Option, Some, ⊤, unwrap_or}
+use Rattle.std.specs.List.{list_any}
 use Rattle.std.proofs.lemmas.Bool.{false≢true}
 use Rattle.std.proofs.lemmas.List.{map-append, append-nil}
 use Rattle.std.proofs.lemmas.List.Folds.{list_any-append}
 use Rattle.fb_numbers.specs.Numbers.{user_entity}
 use Rattle.tx_model.specs.Asks.{Name, Ask, is_tempid, is_same_tempid}
-use Rattle.tx_model.specs.Tempids.{Db, is_among, met_after, holders, number_from, with_text, with_texts, by_text, named_tempids}
+use Rattle.tx_model.specs.Tempids.{Db, is_among, met_after, holders, number_from, with_texts}
 use Rattle.tx_model.specs.Tempids as model
 use Rattle.tx_asks.specs.Asks.{Legend, AreApart}
-use Rattle.tx_resolve.specs.declared.whom.Tempid.{Tempid}
-use Rattle.tx_resolve.specs.declared.whom.Tempid.TheVariants.{Named, Nameless}
-use Rattle.tx_resolve.specs.declared.drafts.Draft.{Draft}
-use Rattle.tx_resolve.specs.Tempids.{is_same}
-use Rattle.tx_resolve.specs.Meeting.{met_with}
-use Rattle.tx_resolve.specs.Holders.{held_of}
-use Rattle.tx_resolve.specs.Holders as drafts
-use Rattle.tx_resolve.specs.Numbers.{numbered, entity_next, number_next, entity_for, with_name, sorted_names}
-use Rattle.tx_resolve.proofs.Alike.{same_itself, same_back}
-use Rattle.tx_resolve.proofs.Places.{name_in, IsMeant, is_tempid-name_in, is_same_tempid-name_in}
-use Rattle.tx_resolve.proofs.Asked.{AreMeant, meant_both}
-use Rattle.tx_resolve.proofs.Acted.{names_in, PairsAreMeant, Have}
+use Rattle.tx_resolve.specs.declared.holders.Slot.{Slot}
+use Rattle.tx_resolve.specs.Tempids.{Tempid, named, nameless, is_same}
+use Rattle.tx_resolve.specs.Meeting.{met_with, named_places}
+use Rattle.tx_resolve.specs.Holders.{slot_at}
+use Rattle.tx_resolve.specs.Numbers.{numbered, entity_next, number_next}
+use Rattle.tx_resolve.proofs.Alike.{same_itself}
+use Rattle.tx_resolve.proofs.Places.{name_in, IsMeant, AreMeant, meant_both, is_tempid-name_in, is_same_tempid-name_in}
+use Rattle.tx_resolve.proofs.Keeping.{slot_of}
+use Rattle.tx_resolve.proofs.InOrder.{numbered_name}
+use Rattle.tx_resolve.proofs.Acted.{paired, none_left, rest_counted}
 
 module _ (legend : Legend) (apart : AreApart legend.places) where
   or-swap : (b c : Bool) → (b || c) ≡ (c || (b || false))
@@ -85,48 +83,59 @@ module _ (legend : Legend) (apart : AreApart legend.places) where
       at true = all
       at false = meant_both legend met (k ∷ []) all (more.0, tt)
 
-  -- ---- the entities
+-- ---- the entities
 
-  module _ (db : Db) (asks : List Ask) (drafted : List Draft)
-      (same : (t : Tempid) → IsMeant legend t → holders db asks (name_in legend t) ≡ drafts.holders drafted t) where
-    number_at : (t : Tempid) (n : ℕ) (es : List ℕ) (rest : ℕ → List (Name × ℕ)) (more : ℕ → List (Tempid × ℕ))
-        → ((n : ℕ) → rest n ≡ names_in legend (more n))
-        → model.number_next (name_in legend t) n es rest
-        ≡ names_in legend ((t, entity_next (held_of es).first n) ∷ more (number_next (held_of es).first n))
-    number_at t n [] rest more are = ap (λ l. (name_in legend t, user_entity (n + 1)) ∷ l) (are (n + 1))
-    number_at t n (e ∷ es) rest more are = ap (λ l. (name_in legend t, e) ∷ l) (are n)
+pub length-numbered : (slots : List Slot) (n : ℕ) → length (numbered slots n) ≡ length slots
+length-numbered [] n = refl
+length-numbered (slot ∷ slots) n = ap suc (length-numbered slots (number_next slot.first n))
 
-    pub numbers_same : (ts : List Tempid) (n : ℕ) → AreMeant legend ts
-        → number_from db asks (map (name_in legend) ts) n ≡ names_in legend (numbered drafted ts n)
-    numbers_same [] n meant = refl
-    numbers_same (t ∷ ts) n meant =
-        ap (λ es. model.number_next (name_in legend t) n es (λ next. number_from db asks (map (name_in legend) ts) next)) (same t meant.0)
-        ∙ number_at t n (drafts.holders drafted t) (λ next. number_from db asks (map (name_in legend) ts) next)
-        (λ next. numbered drafted ts next) (λ next. numbers_same ts next meant.1)
+module _ (db : Db) (asks : List Ask) (added : Name → Bool) where
+  -- what is known of each are the holders that the asks give to its name
+  abbrev pub AreKnown : List Name → List Slot → Type 0
+  AreKnown names slots = (p : ℕ) (m : Name) → slice_get names p ≡ Some m → slot_at slots p ≡ slot_of (holders db asks m) (added m)
 
-  pub pairs_meant : (drafted : List Draft) (ts : List Tempid) (n : ℕ) → AreMeant legend ts → PairsAreMeant legend (numbered drafted ts n)
-  pairs_meant drafted [] n meant = tt
-  pairs_meant drafted (t ∷ ts) n meant =
-      (meant.0, pairs_meant drafted ts (number_next (held_of (drafts.holders drafted t)).first n) meant.1)
+  one_numbered : (m : Name) (n : ℕ) (es : List ℕ) (b : Bool) (names : List Name) (slots : List Slot)
+      → ((n : ℕ) → number_from db asks names n ≡ paired names (numbered slots n))
+      → model.number_next m n es (λ next. number_from db asks names next)
+      ≡ (m, entity_next (slot_of es b).first n) ∷ paired names (numbered slots (number_next (slot_of es b).first n))
+  one_numbered m n [] b names slots rest = ap (λ l. (m, user_entity (n + 1)) ∷ l) (rest (n + 1))
+  one_numbered m n (e ∷ es) b names slots rest = ap (λ l. (m, e) ∷ l) (rest n)
 
-  -- ---- what is told
+  pub numbers_same : (names : List Name) (slots : List Slot) → length slots ≡ length names → AreKnown names slots → (n : ℕ)
+      → number_from db asks names n ≡ paired names (numbered slots n)
+  numbers_same [] slots counted known n = refl
+  numbers_same (m ∷ names) [] counted known n = none_left (length names) counted
+  numbers_same (m ∷ names) (slot ∷ slots) counted known n =
+      one_numbered m n (holders db asks m) (added m) names slots
+      (λ next. numbers_same names slots (rest_counted (length slots) (length names) counted) (λ p k is. known (suc p) k is) next)
+      ∙ ap (λ (s : Slot). (m, entity_next s.first n) ∷ paired names (numbered slots (number_next s.first n))) (sym (known 0 m refl))
 
-  text_told : (t : Tempid) (e : ℕ) → with_text (name_in legend t) e ≡ with_name (t, e)
-  text_told (Named s) e = refl
-  text_told (Nameless n) e = refl
+-- ---- what is told
 
-  texts_told : (pairs : List (Tempid × ℕ)) → with_texts (names_in legend pairs) ≡ filter_map with_name pairs
-  texts_told [] = refl
-  texts_told (p ∷ ps) =
-      ap (λ o. cons_option o (with_texts (names_in legend ps))) (text_told p.0 p.1)
-      ∙ ap (cons_option (with_name p)) (texts_told ps)
+later_place : (k i : ℕ) → k + 1 + i ≡ k + suc i
+later_place k i = omega arith
 
-  pub told_same : (pairs : List (Tempid × ℕ)) → named_tempids (names_in legend pairs) ≡ sorted_names pairs
-  told_same pairs = ap by_text (texts_told pairs)
+one_told : (s : List ℕ) (k e : ℕ) (all : List ℕ) (rest more : List (List ℕ × ℕ)) → slice_get all k ≡ Some e → rest ≡ more
+    → (s, e) ∷ rest ≡ (s, unwrap_or (slice_get all k) 0) ∷ more
+one_told s k e all rest more is same = ap (λ l. (s, e) ∷ l) same ∙ ap (λ o. (s, unwrap_or o 0) ∷ more) (sym is)
 
--- ---- each tempid that is met has an entity
+pub texts_told : (legend : Legend) (all : List ℕ) (ts : List Tempid) (entities : List ℕ) (k : ℕ) → length entities ≡ length ts
+    → ((i : ℕ) → slice_get all (k + i) ≡ slice_get entities i)
+    → with_texts (paired (map (name_in legend) ts) entities) ≡ map (numbered_name all) (named_places k ts)
+texts_told legend all [] entities k counted are = refl
+texts_told legend all (t ∷ ts) [] k counted are = none_left (length ts) counted
+texts_told legend all (named s ∷ ts) (e ∷ entities) k counted are =
+    one_told s k e all (with_texts (paired (map (name_in legend) ts) entities)) (map (numbered_name all) (named_places (k + 1) ts))
+    (ap (slice_get all) (sym (add-zero k)) ∙ are 0)
+    (texts_told legend all ts entities (k + 1) (rest_counted (length entities) (length ts) counted)
+    (λ i. ap (slice_get all) (later_place k i) ∙ are (suc i)))
+texts_told legend all (nameless n ∷ ts) (e ∷ entities) k counted are =
+    texts_told legend all ts entities (k + 1) (rest_counted (length entities) (length ts) counted)
+    (λ i. ap (slice_get all) (later_place k i) ∙ are (suc i))
 
-abbrev AreIn : List Tempid → List Tempid → Type 0
+-- ---- each tempid is among those that are met
+
+abbrev pub AreIn : List Tempid → List Tempid → Type 0
 AreIn met [] = ⊤
 AreIn met (t ∷ ts) = (list_any (is_same t) met ≡ true) × AreIn met ts
 
@@ -146,7 +155,7 @@ stays met (k ∷ ks) t is = stays (cond (list_any (is_same k) met) met (met ++ k
     at true = is
     at false = list_any-append (is_same t) met (k ∷ []) ∙ or-left (list_any (is_same t) met) (is_same t k || false) is
 
-all_met : (met ks : List Tempid) → AreIn (met_with met ks) ks
+pub all_met : (met ks : List Tempid) → AreIn (met_with met ks) ks
 all_met met [] = tt
 all_met met (k ∷ ks) = (
   stays (cond (list_any (is_same k) met) met (met ++ k ∷ [])) ks k (at (list_any (is_same k) met) refl),
@@ -158,27 +167,3 @@ all_met met (k ∷ ks) = (
     at false is =
         list_any-append (is_same k) met (k ∷ [])
         ∙ or-right (list_any (is_same k) met) (is_same k k || false) (or-left (is_same k k) false (same_itself k))
-
-has_entity : (drafted : List Draft) (ts : List Tempid) (n : ℕ) (t : Tempid) → list_any (is_same t) ts ≡ true
-    → is_some (entity_for (numbered drafted ts n) t) ≡ true
-has_entity drafted [] n t is = absurd (false≢true is)
-has_entity drafted (x ∷ ts) n t is =
-    at (λ has. has_entity drafted ts (number_next (held_of (drafts.holders drafted x)).first n) t has) (is_same t x) refl is
-  where
-    at : (list_any (is_same t) ts ≡ true
-        → is_some (entity_for (numbered drafted ts (number_next (held_of (drafts.holders drafted x)).first n)) t) ≡ true)
-        → (b : Bool) → is_same t x ≡ b → (b || list_any (is_same t) ts) ≡ true → is_some (entity_for (numbered drafted (x ∷ ts) n) t) ≡ true
-    at rest true same has =
-        ap (λ b. is_some (cond b (Some (entity_next (held_of (drafts.holders drafted x)).first n))
-        (entity_for (numbered drafted ts (number_next (held_of (drafts.holders drafted x)).first n)) t))) (same_back x t ∙ same)
-    at rest false same has =
-        ap (λ b. is_some (cond b (Some (entity_next (held_of (drafts.holders drafted x)).first n))
-        (entity_for (numbered drafted ts (number_next (held_of (drafts.holders drafted x)).first n)) t))) (same_back x t ∙ same)
-        ∙ rest has
-
-have_all : (drafted : List Draft) (ts : List Tempid) (n : ℕ) (ks : List Tempid) → AreIn ts ks → Have (numbered drafted ts n) ks
-have_all drafted ts n [] are = tt
-have_all drafted ts n (k ∷ ks) are = (has_entity drafted ts n k are.0, have_all drafted ts n ks are.1)
-
-pub all_have : (drafted : List Draft) (ks : List Tempid) (n : ℕ) → Have (numbered drafted (met_with [] ks) n) ks
-all_have drafted ks n = have_all drafted (met_with [] ks) n ks (all_met [] ks)

@@ -1,6 +1,6 @@
 -- The refusal that the drafts come to is that of the asks, and so are the acts.
 use Rattle.std.proofs.Common.{◌≡◌, ℕ, List, [], ◌∷◌, map, Vec, Global, refl, ap, ◌∙◌, subst}
-use Rattle.std.specs.Prelude.{Option, Some, None}
+use Rattle.std.specs.Prelude.{Option, Some, None, flat_map}
 use Rattle.tx_refusals.specs.declared.reasons.Reason.{Reason}
 use Rattle.tx_refusals.specs.declared.reasons.Reason.TheVariants.{NotAnEntity, NestedWithoutId, TempidConflict, TempidNotAnEntity}
 use Rattle.tx_model.specs.Asks as model
@@ -18,8 +18,10 @@ use Rattle.tx_asks.specs.Acts.{model_act, acts_in}
 use Rattle.tx_resolve.specs.declared.drafts.Draft.{Draft}
 use Rattle.tx_resolve.specs.Whoms.{all_found}
 use Rattle.tx_resolve.specs.Drafts.{lost_at, AreFound}
-use Rattle.tx_resolve.specs.Breaks.{none_at}
-use Rattle.tx_resolve.specs.Settled.{lists_of, tempid_rules}
+use Rattle.tx_resolve.specs.declared.meeting.Met.{Met}
+use Rattle.tx_resolve.specs.Meeting.{tempids_of, met_with, asks_in, AreMet}
+use Rattle.tx_resolve.specs.Breaks.{first_form, uses_one_of_none}
+use Rattle.tx_resolve.specs.Settled.{slots_in, lists_of, tempid_rules}
 use Rattle.tx_resolve.specs.Rules.{resolve_rules, StopsBy}
 use Rattle.tx_resolve.proofs.Options.{none_not}
 use Rattle.tx_resolve.proofs.Bridge.{AskNothing, lost_same, conflict_is, none_is}
@@ -36,7 +38,8 @@ least_told reason o rest Memory told = tt
 least_told reason None rest (Refused refusal) told = none_not told
 least_told reason (Some at) rest (Refused refusal) told = told
 
-module _ (nothing : AskNothing) (db : Db) (flat : Flat) (asks : List (List model.Ask)) (are : AreAsks flat db.facts asks) where
+module _ (nothing : AskNothing) (db : Db) (flat : Flat) (asks : List (List model.Ask)) (are : AreAsks flat db.facts asks) (met : Met)
+    (are_met : AreMet met (met_with [] (flat_map tempids_of (asks_in flat.forms.items)))) where
   abbrev other_rules : List (Reason × Option ℕ)
   other_rules =
       (NestedWithoutId, first_yes 0 (map (breaks_nested_without_id db) asks))
@@ -46,30 +49,31 @@ module _ (nothing : AskNothing) (db : Db) (flat : Flat) (asks : List (List model
 
   -- a name that finds no entity, where the lookup refs find these
   pub lost_refused : (looked_up : List (Option ℕ)) (fs : List (Vec Ask Global))
-      → lost_at db looked_up fs ≡ lost_at db (all_found db flat.lookups.items) flat.forms.items
-      → (stop : TxStop) → StopsBy (first_refusal ((NotAnEntity, lost_at db looked_up fs) ∷ [])) stop
+      → lost_at db looked_up met fs ≡ lost_at db (all_found db flat.lookups.items) met flat.forms.items
+      → (stop : TxStop) → StopsBy (first_refusal ((NotAnEntity, lost_at db looked_up met fs) ∷ [])) stop
       → StopsBy (first_refusal (resolve_rules db asks)) stop
   lost_refused looked_up fs is stop told =
-      subst (λ o. StopsBy (first_refusal ((NotAnEntity, o) ∷ other_rules)) stop) (is ∙ lost_same nothing db flat asks are)
-      (least_told NotAnEntity (lost_at db looked_up fs) other_rules stop told)
+      subst (λ o. StopsBy (first_refusal ((NotAnEntity, o) ∷ other_rules)) stop) (is ∙ lost_same nothing db flat asks are met are_met)
+      (least_told NotAnEntity (lost_at db looked_up met fs) other_rules stop told)
 
-  pub rest_refused : (gs : List (Vec Draft Global)) → AreFound db (all_found db flat.lookups.items) flat.forms.items gs
-      → None ≡ lost_at db (all_found db flat.lookups.items) flat.forms.items
-      → first_refusal ((NestedWithoutId, flat.lacking) ∷ tempid_rules gs) ≡ first_refusal (resolve_rules db asks)
+  pub rest_refused : (gs : List (Vec Draft Global)) → AreFound db (all_found db flat.lookups.items) met flat.forms.items gs
+      → None ≡ lost_at db (all_found db flat.lookups.items) met flat.forms.items
+      → first_refusal ((NestedWithoutId, flat.lacking) ∷ tempid_rules met gs) ≡ first_refusal (resolve_rules db asks)
   rest_refused gs found none =
-      ap (λ o. first_refusal ((NestedWithoutId, o) ∷ tempid_rules gs)) are.lacking
+      ap (λ o. first_refusal ((NestedWithoutId, o) ∷ tempid_rules met gs)) are.lacking
       ∙ ap (λ o. first_refusal ((NestedWithoutId, first_yes 0 (map (breaks_nested_without_id db) asks)) ∷ (TempidConflict, o)
-      ∷ (TempidNotAnEntity, none_at gs) ∷ [])) (conflict_is nothing db flat asks are gs found)
+      ∷ (TempidNotAnEntity, first_form (uses_one_of_none (slots_in met gs)) gs) ∷ []))
+      (conflict_is nothing db flat asks are met are_met gs found)
       ∙ ap (λ o. first_refusal (
       (NestedWithoutId, first_yes 0 (map (breaks_nested_without_id db) asks))
       ∷ (TempidConflict, first_yes 0 (map (breaks_tempid_conflict db (joined asks)) asks))
       ∷ (TempidNotAnEntity, o)
       ∷ []
-      )) (none_is nothing db flat asks are gs found)
+      )) (none_is nothing db flat asks are met are_met gs found)
       ∙ ap (λ o. first_refusal (
       (NotAnEntity, o)
       ∷ (NestedWithoutId, first_yes 0 (map (breaks_nested_without_id db) asks))
       ∷ (TempidConflict, first_yes 0 (map (breaks_tempid_conflict db (joined asks)) asks))
       ∷ (TempidNotAnEntity, first_yes 0 (map (breaks_tempid_not_an_entity (joined asks)) asks))
       ∷ []
-      )) (none ∙ lost_same nothing db flat asks are)
+      )) (none ∙ lost_same nothing db flat asks are met are_met)

@@ -1,52 +1,48 @@
 -- What additions give to a tempid: the holders of identity values.
 -- Datomic, Transaction Data (temporary ids) and Schema (unique identities).
-use Rattle.std.specs.Prelude.{◌≡◌, ℕ, Bool, false, not, List, [], ◌∷◌, filter_map, nat_eq}
-use Rattle.std.specs.Prelude.{if◌then◌else◌, is_some, unwrap_or, Option, Some, None}
-use Rattle.std.specs.Prelude.{option_and_then}
+use Rattle.std.specs.Prelude.{ℕ, Bool, true, false, not, ◌||◌, List, [], ◌∷◌, nat_eq}
+use Rattle.std.specs.Prelude.{slice_index_or, slice_set, Option, Some, None}
 use Rattle.std.specs.Option.{option_map_or}
-use Rattle.std.specs.List.{list_any}
-use Rattle.std.specs.BTreeMap.{BTreeMap, get}
-use Rattle.tx_resolve.specs.declared.whom.Tempid.{Tempid}
 use Rattle.tx_resolve.specs.declared.whom.EntityRef.TheVariants.{New}
 use Rattle.tx_resolve.specs.declared.drafts.Draft.{Draft}
 use Rattle.tx_resolve.specs.declared.drafts.Draft.TheVariants as draft
-use Rattle.tx_resolve.specs.declared.holders.Held.{Held}
-use Rattle.tx_resolve.specs.Tempids.{tempid_cmp, is_same}
+use Rattle.tx_resolve.specs.declared.holders.Slot.{Slot}
 
--- the tempid that it adds to, with the holder that it gives it, if there is one
-abbrev pub addition_of : Draft → Option (Tempid × Option ℕ)
-addition_of (draft.Adds (New tempid) attribute part holder) = Some (tempid, holder)
+-- ---- what is known of one tempid
+
+-- no form adds to it
+abbrev pub no_slot : Slot
+no_slot = record { first = None; differ = false; added_to = false }
+
+-- one of its holders is another
+abbrev pub has_another : Slot → ℕ → Bool
+has_another slot e =
+    option_map_or (λ first. not (nat_eq first e) || slot.differ) slot.first false
+
+-- with one more addition before the others
+abbrev pub with_addition : Option ℕ → Slot → Slot
+with_addition None slot = record { first = slot.first; differ = slot.differ; added_to = true }
+with_addition (Some e) slot =
+    record { first = Some e; differ = has_another slot e; added_to = true }
+
+-- ---- what is known of all, by their places
+
+abbrev pub slot_at : List Slot → ℕ → Slot
+slot_at slots place = slice_index_or slots place no_slot
+
+-- the place of the tempid that it adds to, with the holder that it gives it, if there is one
+abbrev pub addition_of : Draft → Option (ℕ × Option ℕ)
+addition_of (draft.Adds (New place) attribute p holder) = Some (place, holder)
 addition_of asked = None
 
--- it adds to the tempid
-abbrev pub adds_to : Tempid → Draft → Bool
-adds_to tempid asked =
-    option_map_or (λ (addition : Tempid × Option ℕ). is_same tempid addition.0) (addition_of asked)
-    false
+abbrev pub with_draft : Draft → List Slot → List Slot
+with_draft asked slots =
+    option_map_or
+    (λ (addition : ℕ × Option ℕ). slice_set slots addition.0
+    (with_addition addition.1 (slot_at slots addition.0)))
+    (addition_of asked) slots
 
--- the holder that it gives to the tempid
-abbrev pub given : Tempid → Draft → Option ℕ
-given tempid asked =
-    option_and_then
-    (λ (addition : Tempid × Option ℕ). if is_same tempid addition.0 then addition.1 else None)
-    (addition_of asked)
-
-abbrev pub holders : List Draft → Tempid → List ℕ
-holders drafts tempid = filter_map (given tempid) drafts
-
--- ---- what is kept of the holders
-
--- one of them is another
-abbrev pub has_another : List ℕ → ℕ → Bool
-has_another held e = list_any (λ other. not (nat_eq other e)) held
-
--- the first one, and whether another differs from it
-abbrev pub held_of : List ℕ → Held
-held_of [] = record { first = None; differ = false }
-held_of (e ∷ es) = record { first = Some e; differ = has_another es e }
-
--- what is kept of each tempid that is added to
-pub record AreHolders (kept : BTreeMap Tempid Held) (drafts : List Draft) : Type 0 where
-  pub holders_are : (t : Tempid)
-      → unwrap_or (get tempid_cmp kept t) (held_of []) ≡ held_of (holders drafts t)
-  pub added_to : (t : Tempid) → is_some (get tempid_cmp kept t) ≡ list_any (adds_to t) drafts
+-- what the drafts give, before what is known already
+abbrev pub slots_of : List Slot → List Draft → List Slot
+slots_of slots [] = slots
+slots_of slots (asked ∷ later) = with_draft asked (slots_of slots later)

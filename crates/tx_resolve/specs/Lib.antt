@@ -1,8 +1,8 @@
 pub mod Tempids
+pub mod Holders
+pub mod Meeting
 pub mod Whoms
 pub mod Drafts
-pub mod Meeting
-pub mod Holders
 pub mod Numbers
 pub mod Breaks
 pub mod Rules

@@ -1,27 +1,22 @@
 -- The entities of tempids.
 -- Datomic, Transaction Data (temporary ids).
 -- That user numbers have no gap is this project's own choice.
-use Rattle.std.specs.Prelude.{◌≡◌, ℕ, ◌+◌, List, [], ◌∷◌, filter_map, if◌then◌else◌, Option, Some}
-use Rattle.std.specs.Prelude.{None, option_and_then, option_map, ⊤}
-use Rattle.std.specs.BTreeMap.{BTreeMap, get}
+use Rattle.std.specs.Prelude.{ℕ, ◌+◌, List, [], ◌∷◌, slice_get, Option, Some, None}
+use Rattle.std.specs.Prelude.{option_and_then, option_map}
 use Rattle.fb_values.specs.declared.facts.Value.{Value}
 use Rattle.fb_values.specs.declared.facts.Value.TheVariants.{Ref}
 use Rattle.fb_numbers.specs.Numbers.{user_entity}
 use Rattle.fb_schema.specs.Parts.{model_attribute}
-use Rattle.tx_model.specs.Tempids.{by_text}
 use Rattle.tx_asks.specs.Acts as acts
-use Rattle.tx_resolve.specs.declared.whom.Tempid.{Tempid}
-use Rattle.tx_resolve.specs.declared.whom.Tempid.TheVariants.{Named, Nameless}
 use Rattle.tx_resolve.specs.declared.whom.EntityRef.{EntityRef}
 use Rattle.tx_resolve.specs.declared.whom.EntityRef.TheVariants.{Known, New}
 use Rattle.tx_resolve.specs.declared.drafts.Operand.{Operand}
 use Rattle.tx_resolve.specs.declared.drafts.Operand.TheVariants.{Plain, Entity}
 use Rattle.tx_resolve.specs.declared.drafts.Draft.{Draft}
 use Rattle.tx_resolve.specs.declared.drafts.Draft.TheVariants as draft
-use Rattle.tx_resolve.specs.Tempids.{tempid_cmp, is_same}
-use Rattle.tx_resolve.specs.Holders.{holders, held_of}
+use Rattle.tx_resolve.specs.declared.holders.Slot.{Slot}
 
--- each tempid with its entity: the first holder, or else the next user entity
+-- the entity of a tempid: the first holder, or else the next user entity
 abbrev pub entity_next : Option ℕ → ℕ → ℕ
 entity_next None n = user_entity (n + 1)
 entity_next (Some e) n = e
@@ -31,68 +26,46 @@ abbrev pub number_next : Option ℕ → ℕ → ℕ
 number_next None n = n + 1
 number_next (Some e) n = n
 
-abbrev pub numbered : List Draft → List Tempid → ℕ → List (Tempid × ℕ)
-numbered drafts [] n = []
-numbered drafts (t ∷ ts) n =
-    let first = (held_of (holders drafts t)).first in
-    (t, entity_next first n) ∷ numbered drafts ts (number_next first n)
+-- the entities of all, by their places
+abbrev pub numbered : List Slot → ℕ → List ℕ
+numbered [] n = []
+numbered (slot ∷ slots) n = entity_next slot.first n ∷ numbered slots (number_next slot.first n)
 
--- the entity of a tempid among these
-abbrev pub entity_for : List (Tempid × ℕ) → Tempid → Option ℕ
-entity_for [] t = None
-entity_for (pair ∷ pairs) t = if is_same pair.0 t then Some pair.1 else entity_for pairs t
+-- a name with the entity of its place
+abbrev pub with_entity : List ℕ → List ℕ × ℕ → Option (List ℕ × ℕ)
+with_entity entities name = option_map (λ e. (name.0, e)) (slice_get entities name.1)
 
--- the tempids with a name, by its bytes
-abbrev pub with_name : Tempid × ℕ → Option (List ℕ × ℕ)
-with_name (Named text, e) = Some (text, e)
-with_name (Nameless n, e) = None
+-- ---- the act of a draft, where the tempids have these entities by their places
 
-abbrev pub sorted_names : List (Tempid × ℕ) → List (List ℕ × ℕ)
-sorted_names pairs = by_text (filter_map with_name pairs)
+abbrev pub entity_of : List ℕ → EntityRef → Option ℕ
+entity_of entities (Known e) = Some e
+entity_of entities (New place) = slice_get entities place
 
--- the map has the entities of these tempids
-abbrev pub HasEntities : BTreeMap Tempid ℕ → List (Tempid × ℕ) → Type 0
-HasEntities entities pairs = (t : Tempid) → get tempid_cmp entities t ≡ entity_for pairs t
+abbrev pub value_of : List ℕ → Operand → Option Value
+value_of entities (Plain v) = Some v
+value_of entities (Entity whom) = option_map Ref (entity_of entities whom)
 
--- no tempid is there twice
-abbrev pub AreApart : List (Tempid × ℕ) → Type 0
-AreApart [] = ⊤
-AreApart (pair ∷ pairs) = (entity_for pairs pair.0 ≡ None) × AreApart pairs
+abbrev pub old_value_of : List ℕ → Option Operand → Option Value
+old_value_of entities None = None
+old_value_of entities (Some p) = value_of entities p
 
--- those with a name are in the order in which a reply has them
-abbrev pub HasNames : BTreeMap Tempid ℕ → List (Tempid × ℕ) → Type 0
-HasNames entities pairs = filter_map with_name entities.entries ≡ sorted_names pairs
-
--- ---- the act of a draft, where the tempids have these entities
-
-abbrev pub entity_of : List (Tempid × ℕ) → EntityRef → Option ℕ
-entity_of pairs (Known e) = Some e
-entity_of pairs (New t) = entity_for pairs t
-
-abbrev pub value_of : List (Tempid × ℕ) → Operand → Option Value
-value_of pairs (Plain v) = Some v
-value_of pairs (Entity whom) = option_map Ref (entity_of pairs whom)
-
-abbrev pub old_value_of : List (Tempid × ℕ) → Option Operand → Option Value
-old_value_of pairs None = None
-old_value_of pairs (Some part) = value_of pairs part
-
-abbrev pub act_of : List (Tempid × ℕ) → Draft → Option acts.Act
-act_of pairs (draft.Adds on attribute part holder) =
+abbrev pub act_of : List ℕ → Draft → Option acts.Act
+act_of entities (draft.Adds on attribute p holder) =
     option_and_then
-    (λ e. option_map (acts.adds e (model_attribute attribute.now)) (value_of pairs part))
-    (entity_of pairs on)
-act_of pairs (draft.Retracts on attribute part) =
+    (λ e. option_map (acts.adds e (model_attribute attribute.now)) (value_of entities p))
+    (entity_of entities on)
+act_of entities (draft.Retracts on attribute p) =
     option_and_then
-    (λ e. option_map (acts.retracts e (model_attribute attribute.now)) (value_of pairs part))
-    (entity_of pairs on)
-act_of pairs (draft.RetractsAll on attribute) =
-    option_map (λ e. acts.retracts_all e (model_attribute attribute.now)) (entity_of pairs on)
-act_of pairs (draft.Compares of) =
+    (λ e. option_map (acts.retracts e (model_attribute attribute.now)) (value_of entities p))
+    (entity_of entities on)
+act_of entities (draft.RetractsAll on attribute) =
+    option_map (λ e. acts.retracts_all e (model_attribute attribute.now)) (entity_of entities on)
+act_of entities (draft.Compares of) =
     option_and_then
     (λ e. option_map
-    (acts.compares e (model_attribute of.attribute.now) (old_value_of pairs of.old))
-    (value_of pairs of.new))
-    (entity_of pairs of.on)
-act_of pairs (draft.RetractsEntity on) = option_map acts.retracts_entity (entity_of pairs on)
-act_of pairs (draft.Meets on) = None
+    (acts.compares e (model_attribute of.attribute.now) (old_value_of entities of.old))
+    (value_of entities of.new))
+    (entity_of entities of.on)
+act_of entities (draft.RetractsEntity on) =
+    option_map acts.retracts_entity (entity_of entities on)
+act_of entities (draft.Meets on) = None

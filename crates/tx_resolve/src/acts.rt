@@ -1,14 +1,13 @@
 //! What is asked of entities by their numbers.
-ghost use Rattle.std.specs.Prelude.{◌≡◌, ◌++◌, ℕ, List, IfOk, map, filter_map, option_to_list};
+ghost use Rattle.std.specs.Prelude.{◌≡◌, ◌++◌, IfOk, map, filter_map, option_to_list};
 ghost use Rattle.std.specs.Option.{option_map};
 ghost use Rattle.tx_asks.specs.declared.acts.Act.TheVariants as acts;
 ghost use Rattle.tx_asks.specs.Acts.{model_act};
 ghost use Rattle.tx_resolve.specs.declared.drafts.Draft.TheVariants.{Compares};
-ghost use Rattle.tx_resolve.specs.declared.whom.Tempid.{Tempid as model_Tempid};
-ghost use Rattle.tx_resolve.specs.Numbers.{HasEntities, entity_of, value_of, old_value_of, act_of};
+ghost use Rattle.tx_resolve.specs.Numbers.{entity_of, value_of, old_value_of, act_of};
 
 use crate::drafts::{Draft, DraftComparison, Operand};
-use crate::numbers::Entities;
+use crate::numbers::entity_at;
 use crate::whom::EntityRef;
 use fb_memory::Memory;
 use fb_values::Value;
@@ -18,12 +17,11 @@ use tx_asks::{Act, Boxed, ResolvedComparison};
 /// The acts of each form.
 pub fn acts_of_forms<'a>(
     alloc: Global,
-    entities: &Entities,
+    entities: &[u64],
     forms: Vec<Vec<Draft<'a>>>,
 ) -> Result<Vec<Vec<Act<'a>>>, Memory>
-    ensures { (pairs : List (model_Tempid × ℕ)) → HasEntities entities.now pairs
-        → IfOk result (λ list. map (λ acts. map model_act acts.items) list.items
-        ≡ map (λ form. filter_map (act_of pairs) form.items) forms.entry.items) }
+    ensures { IfOk result (λ list. map (λ acts. map model_act acts.items) list.items
+        ≡ map (λ form. filter_map (act_of entities.now) form.items) forms.entry.items) }
 {
     let mut list = Vec::with_capacity(alloc, forms.len())?;
     for drafts in forms {
@@ -34,11 +32,11 @@ pub fn acts_of_forms<'a>(
 
 fn acts_of<'a>(
     alloc: Global,
-    entities: &Entities,
+    entities: &[u64],
     drafts: Vec<Draft<'a>>,
 ) -> Result<Vec<Act<'a>>, Memory>
-    ensures { (pairs : List (model_Tempid × ℕ)) → HasEntities entities.now pairs
-        → IfOk result (λ acts. map model_act acts.items ≡ filter_map (act_of pairs) drafts.entry.items) }
+    ensures { IfOk result
+        (λ acts. map model_act acts.items ≡ filter_map (act_of entities.now) drafts.entry.items) }
 {
     let mut acts = Vec::with_capacity(alloc, drafts.len())?;
     for draft in drafts {
@@ -57,9 +55,9 @@ fn push_some<'a>(acts: &mut Vec<Act<'a>>, act: Option<Act<'a>>) -> Result<(), Me
 }
 
 /// None where there only is a map of an entity.
-fn act<'a>(alloc: Global, entities: &Entities, draft: Draft<'a>) -> Result<Option<Act<'a>>, Memory>
-    ensures { (pairs : List (model_Tempid × ℕ)) → HasEntities entities.now pairs
-        → IfOk result (λ act. option_map model_act act ≡ act_of pairs draft.entry) }
+fn act<'a>(alloc: Global, entities: &[u64], draft: Draft<'a>) -> Result<Option<Act<'a>>, Memory>
+    ensures { IfOk result
+        (λ act. option_map model_act act ≡ act_of entities.now draft.entry) }
 {
     match draft {
         Draft::Adds {
@@ -68,7 +66,7 @@ fn act<'a>(alloc: Global, entities: &Entities, draft: Draft<'a>) -> Result<Optio
             part,
             holder: _,
         } => {
-            let Some(e) = entity(entities, &on) else {
+            let Some(e) = entity(entities, on) else {
                 return Ok(None);
             };
             let Some(v) = value(entities, part) else {
@@ -81,7 +79,7 @@ fn act<'a>(alloc: Global, entities: &Entities, draft: Draft<'a>) -> Result<Optio
             attribute,
             part,
         } => {
-            let Some(e) = entity(entities, &on) else {
+            let Some(e) = entity(entities, on) else {
                 return Ok(None);
             };
             let Some(v) = value(entities, part) else {
@@ -90,14 +88,14 @@ fn act<'a>(alloc: Global, entities: &Entities, draft: Draft<'a>) -> Result<Optio
             Ok(Some(Act::Retracts { e, attribute, v }))
         }
         Draft::RetractsAll { on, attribute } => {
-            let Some(e) = entity(entities, &on) else {
+            let Some(e) = entity(entities, on) else {
                 return Ok(None);
             };
             Ok(Some(Act::RetractsAll { e, attribute }))
         }
         Draft::Compares(drafted) => comparison(alloc, entities, drafted.into_inner()),
         Draft::RetractsEntity { on } => {
-            let Some(e) = entity(entities, &on) else {
+            let Some(e) = entity(entities, on) else {
                 return Ok(None);
             };
             Ok(Some(Act::RetractsEntity { e }))
@@ -108,12 +106,11 @@ fn act<'a>(alloc: Global, entities: &Entities, draft: Draft<'a>) -> Result<Optio
 
 fn comparison<'a>(
     alloc: Global,
-    entities: &Entities,
+    entities: &[u64],
     drafted: DraftComparison<'a>,
 ) -> Result<Option<Act<'a>>, Memory>
-    ensures { (pairs : List (model_Tempid × ℕ)) → HasEntities entities.now pairs
-        → IfOk result
-        (λ act. option_map model_act act ≡ act_of pairs (Compares drafted.entry)) }
+    ensures { IfOk result
+        (λ act. option_map model_act act ≡ act_of entities.now (Compares drafted.entry)) }
 {
     let Some(resolved) = resolved(entities, drafted) else {
         return Ok(None);
@@ -121,10 +118,9 @@ fn comparison<'a>(
     Ok(Some(Act::Compares(Boxed::new(alloc, resolved)?)))
 }
 
-fn resolved<'a>(entities: &Entities, drafted: DraftComparison<'a>) -> Option<ResolvedComparison<'a>>
-    ensures { (pairs : List (model_Tempid × ℕ)) → HasEntities entities.now pairs
-        → option_map (λ found. model_act (acts.Compares found)) result
-        ≡ act_of pairs (Compares drafted.entry) }
+fn resolved<'a>(entities: &[u64], drafted: DraftComparison<'a>) -> Option<ResolvedComparison<'a>>
+    ensures { option_map (λ found. model_act (acts.Compares found)) result
+        ≡ act_of entities.now (Compares drafted.entry) }
 {
     let DraftComparison {
         on,
@@ -132,7 +128,7 @@ fn resolved<'a>(entities: &Entities, drafted: DraftComparison<'a>) -> Option<Res
         old,
         new,
     } = drafted;
-    let e = entity(entities, &on)?;
+    let e = entity(entities, on)?;
     let old = old_value(entities, old);
     let new = value(entities, new)?;
     Some(ResolvedComparison {
@@ -143,32 +139,29 @@ fn resolved<'a>(entities: &Entities, drafted: DraftComparison<'a>) -> Option<Res
     })
 }
 
-fn entity(entities: &Entities, whom: &EntityRef) -> Option<u64>
-    ensures { (pairs : List (model_Tempid × ℕ)) → HasEntities entities.now pairs
-        → result ≡ entity_of pairs whom.now }
+fn entity(entities: &[u64], whom: EntityRef) -> Option<u64>
+    ensures { result ≡ entity_of entities.now whom }
 {
     match whom {
-        EntityRef::Known(e) => Some(*e),
-        EntityRef::New(tempid) => entities.get(tempid).copied(),
+        EntityRef::Known(e) => Some(e),
+        EntityRef::New(place) => entity_at(entities, place),
     }
 }
 
-fn value(entities: &Entities, part: Operand) -> Option<Value>
-    ensures { (pairs : List (model_Tempid × ℕ)) → HasEntities entities.now pairs
-        → result ≡ value_of pairs part }
+fn value(entities: &[u64], part: Operand) -> Option<Value>
+    ensures { result ≡ value_of entities.now part }
 {
     match part {
         Operand::Plain(v) => Some(v),
         Operand::Entity(whom) => {
-            let e = entity(entities, &whom)?;
+            let e = entity(entities, whom)?;
             Some(Value::Ref(e))
         }
     }
 }
 
-fn old_value(entities: &Entities, part: Option<Operand>) -> Option<Value>
-    ensures { (pairs : List (model_Tempid × ℕ)) → HasEntities entities.now pairs
-        → result ≡ old_value_of pairs part }
+fn old_value(entities: &[u64], part: Option<Operand>) -> Option<Value>
+    ensures { result ≡ old_value_of entities.now part }
 {
     match part {
         None => None,

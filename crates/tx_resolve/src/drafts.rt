@@ -10,6 +10,7 @@ ghost use Rattle.tx_resolve.specs.Drafts as model;
 ghost use Rattle.tx_resolve.specs.Drafts.{is_lost, lost_at, AreFound};
 ghost use Rattle.tx_resolve.specs.Rules.{StopsBy};
 
+use crate::meeting::Met;
 use crate::names::whom;
 use crate::whom::EntityRef;
 use fb_facts::Facts;
@@ -65,29 +66,32 @@ pub struct DraftComparison<'a> {
     pub new: Operand,
 }
 
-/// What the forms ask, with the names found, where the lookup refs find these entities. A name that finds none is refused at
-/// the first form that has one.
+/// What the forms ask, with the names found, where the lookup refs find these entities and these are the tempids. A name
+/// that finds none is refused at the first form that has one.
 pub fn drafts_of_forms<'a, F: Facts>(
     alloc: Global,
     facts: &F,
     schema: &Schema,
     found: &[Option<u64>],
+    met: &Met<'a>,
     forms: &[Vec<Ask<'a>>],
 ) -> Result<Vec<Vec<Draft<'a>>>, TxStop>
     requires schema { SchemaStands schema.now (F.history facts.now) }
     requires lawful { IsLawful (F.history facts.now) }
     ensures found { IfOk result (λ drafts.
-        AreFound (db_of (F.history facts.now)) found.now forms.now drafts.items) }
+        AreFound (db_of (F.history facts.now)) found.now met.now forms.now drafts.items) }
     ensures unbroken { IfOk result
-        (λ _. lost_at (db_of (F.history facts.now)) found.now forms.now ≡ None) }
+        (λ _. lost_at (db_of (F.history facts.now)) found.now met.now forms.now ≡ None) }
     ensures refused { IfErr result (λ stop. StopsBy
-        (first_refusal ((NotAnEntity, lost_at (db_of (F.history facts.now)) found.now forms.now)
-        ∷ [])) stop) }
+        (first_refusal ((
+          NotAnEntity,
+          lost_at (db_of (F.history facts.now)) found.now met.now forms.now,
+        ) ∷ [])) stop) }
 {
     let mut forms_found = Vec::with_capacity(alloc, forms.len())?;
     let mut place = 0;
     for asks in forms {
-        let Some(drafts) = drafts_of(alloc, facts, schema, found, asks)? else {
+        let Some(drafts) = drafts_of(alloc, facts, schema, found, met, asks)? else {
             return Err(TxStop::Refused(Refusal {
                 reason: Reason::NotAnEntity,
                 at: place,
@@ -105,19 +109,20 @@ fn drafts_of<'a, F: Facts>(
     facts: &F,
     schema: &Schema,
     found: &[Option<u64>],
+    met: &Met<'a>,
     asks: &[Ask<'a>],
 ) -> Result<Option<Vec<Draft<'a>>>, Memory>
     requires schema { SchemaStands schema.now (F.history facts.now) }
     requires lawful { IsLawful (F.history facts.now) }
     ensures found { IfOk result (λ drafts. IfSome drafts (λ list. map Some list.items
-        ≡ map (model.draft_of (db_of (F.history facts.now)) found.now) asks.now)) }
+        ≡ map (model.draft_of (db_of (F.history facts.now)) found.now met.now) asks.now)) }
     ensures lost { IfOk result
         (λ drafts. is_none drafts
-        ≡ list_any (is_lost (db_of (F.history facts.now)) found.now) asks.now) }
+        ≡ list_any (is_lost (db_of (F.history facts.now)) found.now met.now) asks.now) }
 {
     let mut drafts = Vec::with_capacity(alloc, asks.len())?;
     for ask in asks {
-        let Some(draft) = draft_of(alloc, facts, schema, found, ask)? else {
+        let Some(draft) = draft_of(alloc, facts, schema, found, met, ask)? else {
             return Ok(None);
         };
         drafts.push(draft)?;
@@ -130,26 +135,27 @@ fn draft_of<'a, F: Facts>(
     facts: &F,
     schema: &Schema,
     found: &[Option<u64>],
+    met: &Met<'a>,
     ask: &Ask<'a>,
 ) -> Result<Option<Draft<'a>>, Memory>
     requires schema { SchemaStands schema.now (F.history facts.now) }
     requires lawful { IsLawful (F.history facts.now) }
     ensures { IfOk result
-        (λ draft. draft ≡ model.draft_of (db_of (F.history facts.now)) found.now ask.now) }
+        (λ draft. draft ≡ model.draft_of (db_of (F.history facts.now)) found.now met.now ask.now) }
 {
     match ask {
         Ask::Adds {
             on,
             attribute,
             part,
-        } => addition(facts, schema, found, on, *attribute, part),
+        } => addition(facts, schema, found, met, on, *attribute, part),
         Ask::Retracts {
             on,
             attribute,
             part,
-        } => retraction(facts, schema, found, on, *attribute, part),
+        } => retraction(facts, schema, found, met, on, *attribute, part),
         Ask::RetractsAll { on, attribute } => {
-            let Some(on) = whom(facts, schema, found, on)? else {
+            let Some(on) = whom(facts, schema, found, met, on) else {
                 return Ok(None);
             };
             Ok(Some(Draft::RetractsAll {
@@ -157,15 +163,15 @@ fn draft_of<'a, F: Facts>(
                 attribute: *attribute,
             }))
         }
-        Ask::Compares(asked) => comparison(alloc, facts, schema, found, asked.get()),
+        Ask::Compares(asked) => comparison(alloc, facts, schema, found, met, asked.get()),
         Ask::RetractsEntity { on } => {
-            let Some(on) = whom(facts, schema, found, on)? else {
+            let Some(on) = whom(facts, schema, found, met, on) else {
                 return Ok(None);
             };
             Ok(Some(Draft::RetractsEntity { on }))
         }
         Ask::Meets { on } => {
-            let Some(on) = whom(facts, schema, found, on)? else {
+            let Some(on) = whom(facts, schema, found, met, on) else {
                 return Ok(None);
             };
             Ok(Some(Draft::Meets { on }))
@@ -177,6 +183,7 @@ fn addition<'a, F: Facts>(
     facts: &F,
     schema: &Schema,
     found: &[Option<u64>],
+    met: &Met<'a>,
     on: &Name<'a>,
     attribute: &'a Attribute,
     part: &AskPart<'a>,
@@ -184,16 +191,16 @@ fn addition<'a, F: Facts>(
     requires schema { SchemaStands schema.now (F.history facts.now) }
     requires lawful { IsLawful (F.history facts.now) }
     ensures { IfOk result (λ draft. draft
-        ≡ model.draft_of (db_of (F.history facts.now)) found.now
+        ≡ model.draft_of (db_of (F.history facts.now)) found.now met.now
         (Ask.Adds on.now attribute.entry part.now)) }
 {
-    let Some(on) = whom(facts, schema, found, on)? else {
+    let Some(on) = whom(facts, schema, found, met, on) else {
         return Ok(None);
     };
-    let Some(part) = part_of(facts, schema, found, part)? else {
+    let Some(part) = part_of(facts, schema, found, met, part)? else {
         return Ok(None);
     };
-    let holder = holder_for(facts, &on, attribute, &part);
+    let holder = holder_for(facts, on, attribute, &part);
     Ok(Some(Draft::Adds {
         on,
         attribute,
@@ -205,12 +212,12 @@ fn addition<'a, F: Facts>(
 /// The holder of the identity value that an addition gives to a tempid.
 fn holder_for<F: Facts>(
     facts: &F,
-    on: &EntityRef,
+    on: EntityRef,
     attribute: &Attribute,
     part: &Operand,
 ) -> Option<u64>
     ensures { result
-        ≡ model.holder_for (db_of (F.history facts.now)) on.now attribute.now part.now }
+        ≡ model.holder_for (db_of (F.history facts.now)) on attribute.now part.now }
 {
     match (on, part) {
         (EntityRef::New(_), Operand::Plain(v)) if attribute.is_identity() => facts.holder(
@@ -225,6 +232,7 @@ fn retraction<'a, F: Facts>(
     facts: &F,
     schema: &Schema,
     found: &[Option<u64>],
+    met: &Met<'a>,
     on: &Name<'a>,
     attribute: &'a Attribute,
     part: &AskPart<'a>,
@@ -232,13 +240,13 @@ fn retraction<'a, F: Facts>(
     requires schema { SchemaStands schema.now (F.history facts.now) }
     requires lawful { IsLawful (F.history facts.now) }
     ensures { IfOk result (λ draft. draft
-        ≡ model.draft_of (db_of (F.history facts.now)) found.now
+        ≡ model.draft_of (db_of (F.history facts.now)) found.now met.now
         (Ask.Retracts on.now attribute.entry part.now)) }
 {
-    let Some(on) = whom(facts, schema, found, on)? else {
+    let Some(on) = whom(facts, schema, found, met, on) else {
         return Ok(None);
     };
-    let Some(part) = part_of(facts, schema, found, part)? else {
+    let Some(part) = part_of(facts, schema, found, met, part)? else {
         return Ok(None);
     };
     Ok(Some(Draft::Retracts {
@@ -253,21 +261,22 @@ fn comparison<'a, F: Facts>(
     facts: &F,
     schema: &Schema,
     found: &[Option<u64>],
+    met: &Met<'a>,
     asked: &Comparison<'a>,
 ) -> Result<Option<Draft<'a>>, Memory>
     requires schema { SchemaStands schema.now (F.history facts.now) }
     requires lawful { IsLawful (F.history facts.now) }
     ensures { IfOk result (λ draft. draft
-        ≡ model.draft_of (db_of (F.history facts.now)) found.now
+        ≡ model.draft_of (db_of (F.history facts.now)) found.now met.now
         (Ask.Compares asked.now)) }
 {
-    let Some(on) = whom(facts, schema, found, &asked.on)? else {
+    let Some(on) = whom(facts, schema, found, met, &asked.on) else {
         return Ok(None);
     };
-    let Some(old) = old_part_of(facts, schema, found, &asked.old)? else {
+    let Some(old) = old_part_of(facts, schema, found, met, &asked.old)? else {
         return Ok(None);
     };
-    let Some(new) = part_of(facts, schema, found, &asked.new)? else {
+    let Some(new) = part_of(facts, schema, found, met, &asked.new)? else {
         return Ok(None);
     };
     let attribute = asked.attribute;
@@ -280,22 +289,23 @@ fn comparison<'a, F: Facts>(
     Ok(Some(Draft::Compares(Boxed::new(alloc, drafted)?)))
 }
 
-fn part_of<F: Facts>(
+fn part_of<'a, F: Facts>(
     facts: &F,
     schema: &Schema,
     found: &[Option<u64>],
-    part: &AskPart<'_>,
+    met: &Met<'a>,
+    part: &AskPart<'a>,
 ) -> Result<Option<Operand>, Memory>
     requires schema { SchemaStands schema.now (F.history facts.now) }
     requires lawful { IsLawful (F.history facts.now) }
     ensures { IfOk result
         (λ part_found. part_found
-        ≡ model.part_of (db_of (F.history facts.now)) found.now part.now) }
+        ≡ model.part_of (db_of (F.history facts.now)) found.now met.now part.now) }
 {
     match part {
         AskPart::Plain(_, v) => Ok(Some(Operand::Plain(v.copy()?))),
         AskPart::Entity(name) => {
-            let Some(whom) = whom(facts, schema, found, name)? else {
+            let Some(whom) = whom(facts, schema, found, met, name) else {
                 return Ok(None);
             };
             Ok(Some(Operand::Entity(whom)))
@@ -303,22 +313,23 @@ fn part_of<F: Facts>(
     }
 }
 
-fn old_part_of<F: Facts>(
+fn old_part_of<'a, F: Facts>(
     facts: &F,
     schema: &Schema,
     found: &[Option<u64>],
-    old: &Option<AskPart<'_>>,
+    met: &Met<'a>,
+    old: &Option<AskPart<'a>>,
 ) -> Result<Option<Option<Operand>>, Memory>
     requires schema { SchemaStands schema.now (F.history facts.now) }
     requires lawful { IsLawful (F.history facts.now) }
     ensures { IfOk result
         (λ old_found. old_found
-        ≡ model.old_part_of (db_of (F.history facts.now)) found.now old.now) }
+        ≡ model.old_part_of (db_of (F.history facts.now)) found.now met.now old.now) }
 {
     match old {
         None => Ok(Some(None)),
         Some(part) => {
-            let Some(part) = part_of(facts, schema, found, part)? else {
+            let Some(part) = part_of(facts, schema, found, met, part)? else {
                 return Ok(None);
             };
             Ok(Some(Some(part)))

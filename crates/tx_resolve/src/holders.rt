@@ -1,38 +1,31 @@
 //! What additions give to tempids: the entities that have an identity value already.
-ghost use Rattle.std.specs.Prelude.{◌≡◌, ℕ, List, [], ◌∷◌, ◌++◌, IfOk, Some, option_to_list, unwrap_or};
-ghost use Rattle.std.specs.Option.{option_map};
-ghost use Rattle.std.specs.BTreeMap.{get, Updates};
-ghost use Rattle.tx_resolve.specs.declared.drafts.Draft.{Draft as model_Draft};
-ghost use Rattle.tx_resolve.specs.Tempids.{tempid_cmp};
-ghost use Rattle.tx_resolve.specs.Holders.{held_of, has_another as model_has_another, addition_of, holders, AreHolders};
+ghost use Rattle.std.specs.Prelude.{◌≡◌, slice_set};
+ghost use Rattle.tx_resolve.specs.Holders.{slot_at as model_slot_at, has_another as model_has_another, with_addition as model_with_addition, addition_of, with_draft, slots_of};
 ghost use Rattle.tx_resolve.specs.Meeting.{drafts_in};
 
 use crate::drafts::Draft;
-use crate::whom::{EntityRef, Tempid};
-use fb_memory::Memory;
-use std::alloc::Global;
-use std::collections::BTreeMap;
+use crate::whom::EntityRef;
 
-/// The holders of the identity values that a tempid is given, as far as they matter.
+/// What is known of a tempid: the holders of the identity values that it is given, as far as they matter.
 #[derive(Clone, Copy)]
-pub struct Held {
+pub struct Slot {
     pub first: Option<u64>,
     /// Whether another one differs from the first.
     pub differ: bool,
+    /// Whether a form adds to the tempid.
+    pub added_to: bool,
 }
 
-/// What is kept of each tempid that is added to.
-pub type Holders = BTreeMap<Tempid, Held>;
-
-impl Held {
-    pub const NONE: Held = Held {
+impl Slot {
+    pub const NONE: Slot = Slot {
         first: None,
         differ: false,
+        added_to: false,
     };
 
-    /// Whether one of them is another than this one.
+    /// Whether one of the holders is another than this one.
     pub fn has_another(&self, e: u64) -> bool
-        ensures { (es : List ℕ) → self.now ≡ held_of es → result ≡ model_has_another es e }
+        ensures { result ≡ model_has_another self.now e }
     {
         match self.first {
             Some(first) => first != e || self.differ,
@@ -40,86 +33,84 @@ impl Held {
         }
     }
 
-    /// With one more before them, if there is one.
-    fn before(&self, e: Option<u64>) -> Held
-        ensures { (es : List ℕ) → self.now ≡ held_of es
-            → result ≡ held_of (option_to_list e ++ es) }
+    /// With one more addition before them, and the holder that it gives, if there is one.
+    fn with_addition(&self, holder: Option<u64>) -> Slot
+        ensures { result ≡ model_with_addition holder self.now }
     {
-        match e {
-            Some(e) => Held {
+        match holder {
+            Some(e) => Slot {
                 first: Some(e),
                 differ: self.has_another(e),
+                added_to: true,
             },
-            None => *self,
+            None => Slot {
+                first: self.first,
+                differ: self.differ,
+                added_to: true,
+            },
         }
     }
 }
 
-/// The tempid that it adds to, with the holder that it gives it.
-pub fn addition<'a>(draft: &'a Draft<'_>) -> Option<(&'a Tempid, Option<u64>)>
-    ensures { option_map (λ pair. (pair.0.now, pair.1)) result ≡ addition_of draft.now }
+/// The place of the tempid that it adds to, with the holder that it gives it.
+pub fn addition(draft: &Draft<'_>) -> Option<(usize, Option<u64>)>
+    ensures { result ≡ addition_of draft.now }
 {
     match draft {
         Draft::Adds {
-            on: EntityRef::New(tempid),
+            on: EntityRef::New(place),
             holder,
             ..
-        } => Some((tempid, *holder)),
+        } => Some((*place, *holder)),
         _ => None,
     }
 }
 
-/// What is kept of a tempid.
-pub fn held_by(kept: &Holders, tempid: &Tempid) -> Held
-    ensures { (drafts : List model_Draft) → AreHolders kept.now drafts
-        → result ≡ held_of (holders drafts tempid.now) }
+/// What is known of the tempid with the place.
+pub fn slot_at(slots: &[Slot], place: usize) -> Slot
+    ensures { result ≡ model_slot_at slots.now place }
 {
-    kept.get(tempid).copied().unwrap_or(Held::NONE)
+    match slots.get(place) {
+        Some(slot) => *slot,
+        None => Slot::NONE,
+    }
 }
 
-/// The holders that all forms give. It goes from the last draft to the first, since the first holder counts.
-pub fn holders_in(alloc: Global, forms: &[Vec<Draft<'_>>]) -> Result<Holders, Memory>
-    ensures { IfOk result (λ kept. AreHolders kept (drafts_in forms.now)) }
+/// Puts down what all forms give. It goes from the last draft to the first, since the first holder counts.
+pub fn keep_holders(slots: &mut [Slot], forms: &[Vec<Draft<'_>>])
+    ensures { slots.new ≡ slots_of slots.old (drafts_in forms.now) }
 {
-    let mut kept = BTreeMap::new(alloc);
     let mut i = forms.len();
     while i > 0 {
         i -= 1;
-        keep_form(&mut kept, &forms[i])?;
+        keep_form(slots, &forms[i]);
     }
-    Ok(kept)
 }
 
-fn keep_form(kept: &mut Holders, drafts: &[Draft<'_>]) -> Result<(), Memory>
-    ensures { (later : List model_Draft) → AreHolders kept.old later
-        → IfOk result (λ _. AreHolders kept.new (drafts.now ++ later)) }
+fn keep_form(slots: &mut [Slot], drafts: &[Draft<'_>])
+    ensures { slots.new ≡ slots_of slots.old drafts.now }
 {
     let mut i = drafts.len();
     while i > 0 {
         i -= 1;
-        keep(kept, &drafts[i])?;
+        keep(slots, &drafts[i]);
     }
-    Ok(())
 }
 
 /// Puts a draft before those that were kept.
-fn keep(kept: &mut Holders, draft: &Draft<'_>) -> Result<(), Memory>
-    ensures { (later : List model_Draft) → AreHolders kept.old later
-        → IfOk result (λ _. AreHolders kept.new (draft.now ∷ later)) }
+fn keep(slots: &mut [Slot], draft: &Draft<'_>)
+    ensures { slots.new ≡ with_draft draft.now slots.old }
 {
-    match addition(draft) {
-        Some((tempid, holder)) => keep_holder(kept, tempid, holder),
-        None => Ok(()),
+    if let Some((place, holder)) = addition(draft) {
+        keep_addition(slots, place, holder);
     }
 }
 
-fn keep_holder(kept: &mut Holders, tempid: &Tempid, holder: Option<u64>) -> Result<(), Memory>
-    ensures { (es : List ℕ)
-        → unwrap_or (get tempid_cmp kept.old tempid.now) (held_of []) ≡ held_of es
-        → IfOk result (λ _. Updates tempid_cmp kept.old kept.new tempid.now
-        (Some (held_of (option_to_list holder ++ es)))) }
+fn keep_addition(slots: &mut [Slot], place: usize, holder: Option<u64>)
+    ensures { slots.new ≡ slice_set slots.old place
+        (model_with_addition holder (model_slot_at slots.old place)) }
 {
-    let held = kept.entry(tempid.copy()?)?.or_insert(Held::NONE);
-    *held = held.before(holder);
-    Ok(())
+    if place < slots.len() {
+        slots[place] = slots[place].with_addition(holder);
+    }
 }

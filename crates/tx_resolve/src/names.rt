@@ -9,10 +9,11 @@ ghost use Rattle.fb_schema.specs.Described.{SchemaStands};
 ghost use Rattle.tx_model.specs.Asks as asks;
 ghost use Rattle.tx_model.specs.Tempids.{db_of, found};
 ghost use Rattle.tx_model.specs.Values.{value_in};
-ghost use Rattle.tx_resolve.specs.declared.whom.EntityRef.TheVariants.{Known};
+ghost use Rattle.tx_resolve.specs.declared.whom.EntityRef.TheVariants.{Known, New};
 ghost use Rattle.tx_resolve.specs.Whoms.{found_by, all_found, whom_of};
 
-use crate::whom::{EntityRef, Tempid};
+use crate::meeting::Met;
+use crate::whom::EntityRef;
 use edn_form::Edn;
 use edn_values::{as_value, forms_of_other_types};
 use fb_facts::Facts;
@@ -25,7 +26,7 @@ use tx_asks::{LookupRef, Name};
 use tx_model::lawful_histories_are_small;
 
 /// The tempid that names the transaction's own entity.
-const OWN_TEMPID: &str = "datomic.tx";
+pub const OWN_TEMPID: &str = "datomic.tx";
 
 /// The entity that each lookup ref finds, if there is one.
 pub fn all_looked_up<F: Facts>(
@@ -45,29 +46,29 @@ pub fn all_looked_up<F: Facts>(
     Ok(found)
 }
 
-/// The entity that the name has, where the lookup refs of the transaction find these: none where the database has none
-/// of the name.
-pub fn whom<F: Facts>(
+/// The entity that the name has, where the lookup refs of the transaction find these, and these are the tempids that it
+/// meets: none where the database has none of the name.
+pub fn whom<'a, F: Facts>(
     facts: &F,
     schema: &Schema,
     found: &[Option<u64>],
-    name: &Name<'_>,
-) -> Result<Option<EntityRef>, Memory>
+    met: &Met<'a>,
+    name: &Name<'a>,
+) -> Option<EntityRef>
     requires schema { SchemaStands schema.now (F.history facts.now) }
     requires lawful { IsLawful (F.history facts.now) }
-    ensures { IfOk result
-        (λ whom. whom ≡ whom_of (db_of (F.history facts.now)) found.now name.now) }
+    ensures { result ≡ whom_of (db_of (F.history facts.now)) found.now met.now name.now }
 {
     schemas_tell_of_attributes();
     match name {
-        Name::Number(n) => Ok(known(numbered(facts, *n))),
-        Name::Ident(k) => Ok(known(schema.entity_named(k))),
-        Name::Lookup(n) => Ok(known(entity_at(found, *n))),
+        Name::Number(n) => known(numbered(facts, *n)),
+        Name::Ident(k) => known(schema.entity_named(k)),
+        Name::Lookup(n) => known(entity_at(found, *n)),
         Name::Tempid(text) if text.as_str() == OWN_TEMPID => {
-            Ok(Some(EntityRef::Known(next_transaction(facts))))
+            Some(EntityRef::Known(next_transaction(facts)))
         }
-        Name::Tempid(text) => Ok(Some(EntityRef::New(Tempid::Named(text.copy()?)))),
-        Name::Nameless(n) => Ok(Some(EntityRef::New(Tempid::Nameless(*n)))),
+        Name::Tempid(text) => new(met.named_place(*text)),
+        Name::Nameless(n) => new(met.nameless_place(*n)),
     }
 }
 
@@ -86,6 +87,15 @@ fn known(e: Option<u64>) -> Option<EntityRef>
 {
     match e {
         Some(e) => Some(EntityRef::Known(e)),
+        None => None,
+    }
+}
+
+fn new(place: Option<usize>) -> Option<EntityRef>
+    ensures { result ≡ option_map New place }
+{
+    match place {
+        Some(place) => Some(EntityRef::New(place)),
         None => None,
     }
 }

@@ -8,10 +8,10 @@ ghost use Rattle.tx_model.specs.Transaction.{joined, with_names};
 ghost use Rattle.tx_model.specs.Step.{first_refusal};
 ghost use Rattle.tx_resolve.specs.Rules.{resolve_rules, StopsBy, OfAsks};
 ghost use Rattle.tx_refusals.specs.declared.reasons.Reason.TheVariants.{NestedWithoutId};
-ghost use Rattle.tx_resolve.specs.Numbers.{sorted_names};
-ghost use Rattle.tx_resolve.specs.Settled.{pairs_in, drafted_acts, tempid_rules, lists_of, acts_of};
+ghost use Rattle.tx_resolve.specs.Settled.{drafted_acts, told_names, tempid_rules, lists_of, acts_of};
 
 use crate::drafts::{Draft, drafts_of_forms};
+use crate::meeting::{Met, met_in};
 use crate::names::all_looked_up;
 use crate::settle::settled;
 use fb_facts::Facts;
@@ -24,7 +24,8 @@ use tx_refusals::{Reason, Refusal};
 
 /// What the forms ask of entities by their numbers, or why the transaction is refused: because of a name that finds no
 /// entity, of a map inside another that lacks what it needs, of a tempid with two holders, or of one that nothing is added
-/// to. It costs a logarithm for each ask and for each lookup ref that is written, however many asks name it.
+/// to. It costs a logarithm for each lookup ref that is written, however many asks name it, and for each mention of a
+/// tempid with a name; a map without `:db/id` is found by its number.
 pub fn resolve<'a, F: Facts>(
     alloc: Global,
     flat: Flat<'a>,
@@ -45,33 +46,36 @@ pub fn resolve<'a, F: Facts>(
 {
     asks_that_ask_for_nothing();
     lawful_histories_are_small();
+    let met = met_in(alloc, flat.nameless, &flat.forms)?;
     let found = all_looked_up(alloc, facts, schema, flat.lookups.as_slice())?;
-    let drafts = drafts_of_forms(alloc, facts, schema, found.as_slice(), &flat.forms)?;
-    unless_lacking(alloc, flat.lacking, drafts, facts.issued())
+    let drafts = drafts_of_forms(alloc, facts, schema, found.as_slice(), &met, &flat.forms)?;
+    unless_lacking(alloc, flat.lacking, met, drafts, facts.issued())
 }
 
 /// The answer to the drafts, unless a map inside another lacks what it needs.
 fn unless_lacking<'a>(
     alloc: Global,
     lacking: Option<usize>,
+    met: Met<'a>,
     drafts: Vec<Vec<Draft<'a>>>,
     users: u64,
 ) -> Result<Resolved<'a>, TxStop>
     requires { users < 2 ^ 47 }
     ensures acts { IfOk result
-        (λ answer. acts_of answer ≡ drafted_acts drafts.entry.items users) }
+        (λ answer. acts_of answer ≡ drafted_acts met.entry drafts.entry.items users) }
     ensures tempids { IfOk result
-        (λ answer. answer.tempids.items ≡ sorted_names (pairs_in drafts.entry.items users)) }
+        (λ answer. answer.tempids.items ≡ told_names met.entry drafts.entry.items users) }
     ensures unbroken { IfOk result (λ _. first_refusal
-        ((NestedWithoutId, lacking) ∷ tempid_rules drafts.entry.items) ≡ None) }
+        ((NestedWithoutId, lacking) ∷ tempid_rules met.entry drafts.entry.items) ≡ None) }
     ensures refused { IfErr result (λ stop. StopsBy
-        (first_refusal ((NestedWithoutId, lacking) ∷ tempid_rules drafts.entry.items)) stop) }
+        (first_refusal ((NestedWithoutId, lacking) ∷ tempid_rules met.entry drafts.entry.items))
+        stop) }
 {
     match lacking {
         Some(at) => Err(TxStop::Refused(Refusal {
             reason: Reason::NestedWithoutId,
             at,
         })),
-        None => settled(alloc, drafts, users),
+        None => settled(alloc, met, drafts, users),
     }
 }

@@ -1,91 +1,97 @@
 //! How an ask names its entity, once the database has been asked.
-ghost use Rattle.std.specs.Prelude.{◌≡◌, IfOk};
+ghost use Rattle.std.specs.Prelude.{◌≡◌};
 
-use fb_memory::Memory;
 use fb_text::Text;
 use std::cmp::Ordering;
+use std::marker::Model;
 
 /// An entity of the database, or a tempid, which has no entity yet.
-#[derive(Drop)]
+#[derive(Clone, Copy)]
 pub enum EntityRef {
     Known(u64),
-    New(Tempid),
+    /// By its place among the tempids of the transaction, in the order in which a reader first meets them.
+    New(usize),
 }
 
-/// A tempid of a transaction. The name of the transaction's own entity is none.
+/// The name of a tempid, by its bytes.
 #[derive(Drop)]
-pub enum Tempid {
-    Named(Text),
-    /// A map without `:db/id`, by its number.
-    Nameless(usize),
+pub struct TempidName<'a> {
+    text: &'a Text,
 }
 
-impl Tempid {
-    /// The same tempid, which shares the bytes of its name.
-    pub fn copy(&self) -> Result<Tempid, Memory>
-        ensures { IfOk result (λ t. t ≡ self.now) }
+impl<'a> Model for TempidName<'a> {
+    ghost use Rattle.std.specs.Prelude.{List, ℕ};
+
+    ghost Value = { List ℕ };
+
+    ghost view = { λ name. name.text.now };
+}
+
+impl<'a> TempidName<'a> {
+    pub fn of(text: &'a Text) -> TempidName<'a>
+        ensures { result ≡ text.now }
     {
-        Ok(match self {
-            Tempid::Named(text) => Tempid::Named(text.copy()?),
-            Tempid::Nameless(number) => Tempid::Nameless(*number),
-        })
+        TempidName { text }
+    }
+
+    pub fn text(&self) -> &Text
+        ensures { result.now ≡ self.now }
+    {
+        self.text
     }
 }
 
-impl PartialEq for Tempid {
+impl<'a> PartialEq for TempidName<'a> {
     ghost use Rattle.std.specs.Ordering.{eq_by_cmp};
     ghost use Rattle.std.specs.Cmp.{eq_by_cmp_equiv, partial_equiv_from_equiv};
-    ghost use Rattle.tx_resolve.specs.Tempids.{tempid_cmp, tempid_cmp_total};
+    ghost use Rattle.std.specs.Cmp.Lexicographic.{nat_list_cmp_total};
+    ghost use Rattle.fb_values.specs.Orders.{text_cmp};
 
-    ghost eq = { eq_by_cmp tempid_cmp };
+    ghost eq = { eq_by_cmp text_cmp };
 
-    ghost laws = { partial_equiv_from_equiv (eq_by_cmp_equiv tempid_cmp_total) };
+    ghost laws = { partial_equiv_from_equiv (eq_by_cmp_equiv nat_list_cmp_total) };
 
     fn eq(&self, other: &Self) -> bool {
         self.cmp(other) == Ordering::Equal
     }
 }
 
-impl Eq for Tempid {
+impl<'a> Eq for TempidName<'a> {
     ghost use Rattle.std.specs.Cmp.{eq_by_cmp_equiv};
-    ghost use Rattle.tx_resolve.specs.Tempids.{tempid_cmp_total};
+    ghost use Rattle.std.specs.Cmp.Lexicographic.{nat_list_cmp_total};
 
-    ghost laws = { eq_by_cmp_equiv tempid_cmp_total };
+    ghost laws = { eq_by_cmp_equiv nat_list_cmp_total };
 }
 
-impl PartialOrd for Tempid {
+impl<'a> PartialOrd for TempidName<'a> {
     ghost use Rattle.std.specs.Ordering.{as_partial_cmp};
     ghost use Rattle.std.specs.Cmp.{partial_order_from_total};
-    ghost use Rattle.tx_resolve.specs.Tempids.{tempid_cmp, tempid_cmp_total};
+    ghost use Rattle.std.specs.Cmp.Lexicographic.{nat_list_cmp_total};
+    ghost use Rattle.fb_values.specs.Orders.{text_cmp};
 
-    ghost partial_cmp = { as_partial_cmp tempid_cmp };
+    ghost partial_cmp = { as_partial_cmp text_cmp };
 
-    ghost laws = { partial_order_from_total tempid_cmp_total };
+    ghost laws = { partial_order_from_total nat_list_cmp_total };
 
     fn partial_cmp(&self, other: &Self) -> Option<Ordering> {
         Some(self.cmp(other))
     }
 }
 
-/// The named ones last, by the bytes of their names.
-impl Ord for Tempid {
+impl<'a> Ord for TempidName<'a> {
     ghost use Rattle.std.specs.Prelude.{refl};
-    ghost use Rattle.tx_resolve.specs.Tempids.{tempid_cmp, tempid_cmp_total};
+    ghost use Rattle.std.specs.Cmp.Lexicographic.{nat_list_cmp_total};
+    ghost use Rattle.fb_values.specs.Orders.{text_cmp};
 
-    ghost cmp = { tempid_cmp };
+    ghost cmp = { text_cmp };
 
-    ghost total = { tempid_cmp_total };
+    ghost total = { nat_list_cmp_total };
 
     ghost matches_partial_cmp = { λ x y. refl };
 
     ghost matches_eq = { λ x y. refl };
 
     fn cmp(&self, other: &Self) -> Ordering {
-        match (self, other) {
-            (Tempid::Named(x), Tempid::Named(y)) => x.as_str().cmp(y.as_str()),
-            (Tempid::Named(_), Tempid::Nameless(_)) => Ordering::Greater,
-            (Tempid::Nameless(_), Tempid::Named(_)) => Ordering::Less,
-            (Tempid::Nameless(x), Tempid::Nameless(y)) => x.cmp(y),
-        }
+        self.text.as_str().cmp(other.text.as_str())
     }
 }

@@ -1,7 +1,7 @@
 -- Additions that stand beside another one of their entity and attribute.
 use Rattle.std.proofs.Common.{◌≡◌, ℕ, zero, suc, ◌<◌, ◌≤◌, Bool, true, false, cond, not, ◌&&◌, ◌||◌, eqb, List, [], ◌∷◌, length, get_or}
 use Rattle.std.proofs.Common.{refl, ap, sym, ◌∙◌, subst, arith, inl, inr, None}
-use Rattle.std.specs.Prelude.{filter}
+use Rattle.std.specs.Prelude.{filter, IsTrue}
 use Rattle.std.specs.List.{list_any, list_all}
 use Rattle.std.specs.Ordering.{is_eq}
 use Rattle.std.proofs.lemmas.Bool.{true≢false, and_parts, and_from, and_left, or_cases, leb-true, le-leb, cases_order}
@@ -17,7 +17,7 @@ use Rattle.tx_asks.specs.Triples.{rise}
 use Rattle.tx_rules.specs.Places.{asked_at}
 use denote.Ref.{Bor}
 use Rattle.tx_rules.specs.Neighbours.{behind, are_of_one_entity, is_beside}
-use Rattle.tx_rules.specs.Conflicts.{is_addition, is_withdrawn, is_another_value, conflicts, first_conflict, AreAdditions}
+use Rattle.tx_rules.specs.Conflicts.{is_addition, is_withdrawn, is_another_value, conflicts, first_conflict}
 use Rattle.tx_rules.proofs.Earlier.{first_where-same, first_where-filter}
 use Rattle.tx_rules.proofs.Passing.{two_kept, another_passes, PassesBeside}
 use Rattle.tx_rules.proofs.Sorted.{entity_cmp, entity_cmp_total, entity_alike, triple_alike, beside-kept, entities_sorted, apart}
@@ -27,6 +27,11 @@ pub same_tests : (b c : Bool) → (b ≡ true → c ≡ true) → (c ≡ true �
 same_tests true c f g = sym (f refl)
 same_tests false true f g = g refl
 same_tests false false f g = refl
+
+-- additions in order
+pub record AreAdditions (triples : List Triple) : Type 0 where
+  pub rising : IsTrue (rise triples)
+  pub added : IsTrue (list_all is_addition triples)
 
 -- where one of a list passes
 pub record IsFound (p : Triple → Bool) (xs : List Triple) (d : Triple) : Type 0 where
@@ -161,28 +166,6 @@ module _ (refs : List (Bor Triple)) (i : ℕ) (ref : Bor Triple) (d : Triple) (w
 
   pub behind_length : i < length (behind refs)
   behind_length = subst (λ n. i < n) (sym (length-behind refs)) within
-
-  module _ (facts : List Datom) (additions : AreAdditions (behind refs)) where
-    by_parts : (withdrawn beside one : Bool) → withdrawn ≡ is_withdrawn ref.now → beside ≡ is_beside are_of_one_entity (behind refs) i d
-        → one ≡ is_one facts ref.now.a
-        → (withdrawn || (beside && one)) ≡ conflicts facts (behind refs) (get_or (behind refs) i d)
-    by_parts withdrawn beside one w b o =
-        ap (λ x. x || (beside && one)) (w ∙ ap is_withdrawn (sym behind-at))
-        ∙ ap (λ x. is_withdrawn (get_or (behind refs) i d) || (x && one)) b
-        ∙ ap (λ x. is_withdrawn (get_or (behind refs) i d) || (is_beside are_of_one_entity (behind refs) i d && x))
-        (o ∙ ap (λ (t : Triple). is_one facts t.a) (sym behind-at))
-        ∙ conflicts-beside (behind refs) additions i d behind_length facts
-
-    pub withdrawn-conflicts : true ≡ is_withdrawn ref.now → true ≡ conflicts facts (behind refs) (get_or (behind refs) i d)
-    withdrawn-conflicts w = by_parts true (is_beside are_of_one_entity (behind refs) i d) (is_one facts ref.now.a) w refl refl
-
-    pub crowded-conflicts : (one : Bool) → false ≡ is_withdrawn ref.now → true ≡ is_beside are_of_one_entity (behind refs) i d
-        → one ≡ is_one facts ref.now.a → one ≡ conflicts facts (behind refs) (get_or (behind refs) i d)
-    crowded-conflicts one w b o = by_parts false true one w b o
-
-    pub alone-conflicts : false ≡ is_withdrawn ref.now → false ≡ is_beside are_of_one_entity (behind refs) i d
-        → false ≡ conflicts facts (behind refs) (get_or (behind refs) i d)
-    alone-conflicts w b = by_parts false false (is_one facts ref.now.a) w b refl
 
 -- ---- of all triples the additions alone
 

@@ -25,7 +25,7 @@ use Rattle.tx_asks.specs.declared.triples.Triple.{Triple}
 use Rattle.tx_asks.specs.Triples.{AreTriples}
 use Rattle.tx_rules.specs.Places.{earlier, asked_at, first_where}
 use Rattle.tx_rules.specs.Conflicts.{is_addition, conflicts, first_conflict}
-use Rattle.tx_rules.specs.Holders.{is_taker, is_other_taker, is_held_by_another, is_shared, first_shared}
+use Rattle.tx_rules.specs.Holders.{is_taker, is_other_taker, has_another_holder, is_sole_holder, is_shared, first_shared}
 use Rattle.tx_rules.proofs.Members.{first_of, later_of, which, any_member, IsSome, some_member, comes_from, goes_into, image_of}
 use Rattle.tx_rules.proofs.Members.{not_in_none}
 use Rattle.tx_rules.proofs.Reached.{first_where-members}
@@ -433,6 +433,10 @@ module _ (tx : Transaction) (ts : List Triple) (schema : List Datom) (built : Is
         replaced_is : tx.replaced ≡ map (implied tx.db) tx.added
         replaced_is = ap (λ (x : Transaction). x.replaced) built ∙ ap (map (implied tx.db)) (sym (ap (λ (x : Transaction). x.added) built))
 
+    -- two entities would have the value
+    abbrev is_shared_by : Triple → Bool
+    is_shared_by t = list_any (is_other_taker t) ts || has_another_holder h tx.changes t
+
     module _ (t : Triple) (unique : is_unique tx.db.facts t.a ≡ true) where
       abbrev is_another : Datom → Bool
       is_another o = (eqb o.a t.a && value_eq o.v t.v) && not (eqb o.e t.e)
@@ -441,14 +445,14 @@ module _ (tx : Transaction) (ts : List Triple) (schema : List Datom) (built : Is
       unique_before = subst (λ ds. is_unique ds t.a ≡ true) facts_are unique
 
       held_by : (f : ℕ) → held f t.a t.v ≡ true → changed f t.a t.v ≡ false → not (eqb f t.e) ≡ true
-          → is_held_by_another h tx.changes t ≡ true
+          → has_another_holder h tx.changes t ≡ true
       held_by f holding alone other =
           ap (λ o. option_map_or (λ e. not (eqb e t.e) && not (list_any (is_of e t.a t.v) tx.changes)) o false)
           (holder-is t.a t.v (facts h) f (sym (laws.facts_hold f t.a t.v) ∙ holding)
           (λ g some. laws.one_holder f g t.a t.v unique_before holding (laws.facts_hold g t.a t.v ∙ some)))
           ∙ and_from _ _ other (ap not alone)
 
-      to_shared : list_any is_another tx.after ≡ true → is_shared h tx.changes ts t ≡ true
+      to_shared : list_any is_another tx.after ≡ true → is_shared_by t ≡ true
       to_shared some =
           let o = some_member is_another tx.after some in
           let outer = and_parts (eqb o.member.a t.a && value_eq o.member.v t.v) (not (eqb o.member.e t.e)) o.passes in
@@ -460,7 +464,7 @@ module _ (tx : Transaction) (ts : List Triple) (schema : List Datom) (built : Is
           go o.member.e outer.1 (changed o.member.e t.a t.v) refl after
         where
           by_asked : (f : ℕ) → not (eqb f t.e) ≡ true → (d : Datom) → IsOf f t.a t.v d → d.added ≡ true → IsAskedBy tx d
-              → is_shared h tx.changes ts t ≡ true
+              → is_shared_by t ≡ true
           by_asked f other d of flag (by_addition asked) =
               let told = judging.added_told tx ts schema built triples tells d asked in
               or_left _ _ (any_member (is_other_taker t) ts told.triple told.among
@@ -479,7 +483,7 @@ module _ (tx : Transaction) (ts : List Triple) (schema : List Datom) (built : Is
               absurd (true≢false (sym flag ∙ way_flag tx tx.replaced false (replaced_way tx built) d asked))
 
           go : (f : ℕ) → not (eqb f t.e) ≡ true → (c : Bool) → changed f t.a t.v ≡ c → cond c (not (held f t.a t.v)) (held f t.a t.v) ≡ true
-              → is_shared h tx.changes ts t ≡ true
+              → is_shared_by t ≡ true
           go f other false alone after = or_right _ _ (held_by f after alone other)
           go f other true some after = let by = changed_by f t.a t.v some in by_asked f other by.datom by.of (by.flag ∙ after) by.asked
 
@@ -537,7 +541,7 @@ module _ (tx : Transaction) (ts : List Triple) (schema : List Datom) (built : Is
           (subst (λ n. cond (changed other.member.e n other.member.v) (not (held other.member.e n other.member.v))
           (held other.member.e n other.member.v) ≡ true) a_is (taken_after other.member other.among inner.0)))
 
-      from_held : is_held_by_another h tx.changes t ≡ true → list_any is_another tx.after ≡ true
+      from_held : has_another_holder h tx.changes t ≡ true → list_any is_another tx.after ≡ true
       from_held is = go (holder (facts h) t.a t.v) refl is
         where
           go : (o : Option ℕ) → holder (facts h) t.a t.v ≡ o
@@ -553,9 +557,9 @@ module _ (tx : Transaction) (ts : List Triple) (schema : List Datom) (built : Is
               unchanged false b c_is b_is = b_is
               unchanged true b c_is b_is = absurd (true≢false (sym c_is))
 
-      shared_same : list_any is_another tx.after ≡ is_shared h tx.changes ts t
+      shared_same : list_any is_another tx.after ≡ is_shared_by t
       shared_same =
-          same_tests _ _ to_shared (λ some. elim (or_cases (list_any (is_other_taker t) ts) (is_held_by_another h tx.changes t) some) [
+          same_tests _ _ to_shared (λ some. elim (or_cases (list_any (is_other_taker t) ts) (has_another_holder h tx.changes t) some) [
             | inl taken ↦ from_taker taken
             | inr is ↦ from_held is
           ])
@@ -572,23 +576,36 @@ module _ (tx : Transaction) (ts : List Triple) (schema : List Datom) (built : Is
         turned_round true false r = refl
         turned_round false y r = refl
 
-    pub unique_conflict : by_place tx (breaks_unique_conflict tx) ≡ first_shared schema tx.db.history tx.changes ts
-    unique_conflict =
+    -- where no other entity can have the value, none has it
+    pub unique_conflict : ((t : Triple) → Contains ts t → is_taker schema t ≡ true → is_sole_holder h schema t ≡ true
+        → has_another_holder h tx.changes t ≡ false)
+        → by_place tx (breaks_unique_conflict tx) ≡ first_shared schema tx.db.history tx.changes ts
+    unique_conflict alone =
         of_added tx ts triples (λ d. is_unique tx.db.facts d.a && not (has_no_other_holder tx.after d)) (λ d. refl) built
         ∙ first_where-members (λ t. is_unique tx.db.facts t.a && not (has_no_other_holder tx.after (datom_of t true)))
-        (λ t. is_taker schema t && is_shared h tx.changes ts t) (λ t. t.added) (λ t. t.added) ts
-        (λ t member. by_added t t.added refl (is_unique tx.db.facts t.a) refl)
+        (λ t. is_taker schema t && is_shared h schema tx.changes ts t) (λ t. t.added) (λ t. t.added) ts
+        (λ t member. by_added t member t.added refl (is_unique tx.db.facts t.a) refl)
       where
-        by_added : (t : Triple) (o : Option ℕ) → t.added ≡ o → (u : Bool) → is_unique tx.db.facts t.a ≡ u
+        asked : (t : Triple) → Contains ts t → is_taker schema t ≡ true → is_shared_by t ≡ is_shared h schema tx.changes ts t
+        asked t member taker = ap (λ b. list_any (is_other_taker t) ts || b) (go (is_sole_holder h schema t) refl)
+          where
+            go : (b : Bool) → is_sole_holder h schema t ≡ b
+                → has_another_holder h tx.changes t ≡ (not b && has_another_holder h tx.changes t)
+            go true is = alone t member taker is
+            go false is = refl
+
+        by_added : (t : Triple) → Contains ts t → (o : Option ℕ) → t.added ≡ o → (u : Bool) → is_unique tx.db.facts t.a ≡ u
             → cond (u && not (has_no_other_holder tx.after (datom_of t true))) o None
-            ≡ cond ((is_some o && is_unique schema t.a) && is_shared h tx.changes ts t) o None
-        by_added t None added_is u u_is = nothing (u && not (has_no_other_holder tx.after (datom_of t true)))
+            ≡ cond ((is_some o && is_unique schema t.a) && is_shared h schema tx.changes ts t) o None
+        by_added t member None added_is u u_is = nothing (u && not (has_no_other_holder tx.after (datom_of t true)))
           where
             nothing : (b : Bool) → ◌≡◌ {A = Option ℕ} (cond b None None) None
             nothing true = refl
             nothing false = refl
-        by_added t (Some n) added_is true u_is =
-            ap (λ b. cond b (Some n) None) (no_other-any t tx.after ∙ shared_same t u_is)
-            ∙ ap (λ b. cond (b && is_shared h tx.changes ts t) (Some n) None) (sym u_is ∙ unique_same t.a)
-        by_added t (Some n) added_is false u_is =
-            ap (λ b. cond (b && is_shared h tx.changes ts t) (Some n) None) (sym u_is ∙ unique_same t.a)
+        by_added t member (Some n) added_is true u_is =
+            let unique = sym (unique_same t.a) ∙ u_is in
+            ap (λ b. cond b (Some n) None)
+            (no_other-any t tx.after ∙ shared_same t u_is ∙ asked t member (and_from _ _ (ap is_some added_is) unique))
+            ∙ ap (λ b. cond (b && is_shared h schema tx.changes ts t) (Some n) None) (sym unique)
+        by_added t member (Some n) added_is false u_is =
+            ap (λ b. cond (b && is_shared h schema tx.changes ts t) (Some n) None) (sym u_is ∙ unique_same t.a)

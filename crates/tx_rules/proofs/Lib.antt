@@ -4,6 +4,7 @@ pub mod Sorted
 pub mod Crowded
 pub mod Members
 pub mod Reached
+pub mod Pairs
 pub mod Triples
 pub mod Ways
 pub mod Takers
@@ -12,6 +13,8 @@ pub mod Comparing
 pub mod Entering
 pub mod Judging
 pub mod Holding
+pub mod Identities
+pub mod Newcomers
 pub mod Refusing
 pub mod Rising
 mod Keeping

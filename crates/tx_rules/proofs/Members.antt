@@ -2,8 +2,8 @@
 use Rattle.std.proofs.Common.{◌≡◌, ℕ, zero, suc, ◌<◌, Bool, true, false, List, [], ◌∷◌, length, map, refl, ap, sym, subst, arith, inl, inr}
 use Rattle.std.proofs.Common.{◌⊎◌, Option, Some, None}
 use Rattle.std.specs.Prelude.{flat_map, Contains, slice_index_or, option_to_list}
-use Rattle.std.specs.List.{list_any}
-use Rattle.std.proofs.lemmas.Bool.{true≢false, or_cases, or_parts, or_left, or_right}
+use Rattle.std.specs.List.{list_any, list_all}
+use Rattle.std.proofs.lemmas.Bool.{true≢false, and_parts, or_cases, or_parts, or_left, or_right}
 use Rattle.std.proofs.lemmas.List.Elements.{Contains-append_left, Contains-append_right, Contains-append_cases, Contains-push}
 
 module _ {A : Type 0} where
@@ -43,6 +43,12 @@ module _ {A : Type 0} where
   none_passes p (y ∷ xs) x none member =
       let parts = or_parts (p y) (list_any p xs) none in
       elim (which y x xs member) [ inl is ↦ subst (λ z. p z ≡ false) is parts.0 | inr later ↦ none_passes p xs x parts.1 later ]
+
+  pub passes_member : (p : A → Bool) (xs : List A) (x : A) → list_all p xs ≡ true → Contains xs x → p x ≡ true
+  passes_member p [] x every member = absurd (not_in_none x member)
+  passes_member p (y ∷ xs) x every member =
+      let parts = and_parts (p y) (list_all p xs) every in
+      elim (which y x xs member) [ inl is ↦ subst (λ z. p z ≡ true) is parts.0 | inr later ↦ passes_member p xs x parts.1 later ]
 
   -- one that passes
   pub record IsSome (p : A → Bool) (xs : List A) : Type 0 where

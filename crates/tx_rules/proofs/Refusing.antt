@@ -9,6 +9,7 @@ use Rattle.fb_values.specs.declared.facts.Value.{Value}
 use Rattle.fb_model.specs.History.{said}
 use Rattle.fb_model.specs.Facts.{is_of, holds, Holds, facts, standing}
 use Rattle.fb_model.specs.Schema.{attribute_of, is_one, is_unique}
+use Rattle.fb_model.specs.Lawful.{IsLawful}
 use Rattle.tx_refusals.specs.declared.reasons.Reason.{Reason}
 use Rattle.tx_refusals.specs.declared.reasons.Reason.TheVariants.{CasMany, CasFailed, DatomsConflict, UniqueConflict, IncompleteAttribute}
 use Rattle.tx_refusals.specs.declared.reasons.Reason.TheVariants.{AttributeFixed, TooLarge, Full, AlterationConflict}
@@ -26,6 +27,7 @@ use Rattle.tx_after.specs.After.{after}
 use Rattle.tx_rules.specs.Cas.{first_of_many, first_failed}
 use Rattle.tx_rules.specs.Conflicts.{first_conflict}
 use Rattle.tx_rules.specs.Holders.{first_shared}
+use Rattle.tx_rules.specs.Tempids.{HasAssignedTempids}
 use Rattle.tx_rules.specs.Whole.{first_incomplete}
 use Rattle.tx_rules.specs.Fixed.{first_fixed}
 use Rattle.tx_rules.specs.Promises.{first_broken}
@@ -33,6 +35,7 @@ use Rattle.tx_rules.specs.Rules.{change_rules, is_too_large, is_full, Asked, wit
 use Rattle.tx_rules.proofs.Comparing.{HasOneValues, cas_many, cas_failed}
 use Rattle.tx_rules.proofs.Judging.{datoms_conflict, incomplete_attribute, attribute_fixed, alteration_conflict}
 use Rattle.tx_rules.proofs.Holding.{HasOneHolders, after_is, unique_conflict}
+use Rattle.tx_rules.proofs.Newcomers.{alone}
 
 -- a later rule counts where an earlier one is not broken
 unless : (rule : Reason) (place other : Option ℕ) (rest more : List (Reason × Option ℕ)) → place ≡ other
@@ -46,6 +49,7 @@ unless rule place other rest more same then_same = ap (λ p. first_refusal ((rul
 
 -- what is known of the history, and of acts
 pub record IsKnown (h : List Entry) (schema : List Datom) : Type 0 where
+  pub lawful : IsLawful h
   pub tells : (e : ℕ) → attribute_of schema e ≡ attribute_of (facts h) e
   pub facts_hold : (e a : ℕ) (v : Value) → holds h e a v ≡ list_any (is_of e a v) (facts h)
   pub one_value : (e a : ℕ) (v w : Value) → IsTrue (is_one (facts h) a) → Holds h e a v → Holds h e a w → v ≡ w
@@ -58,8 +62,8 @@ pub record Compares (tx : Transaction) : Type 0 where
       → compares_another tx ask ≡ option_map_or (is_cas_of_another tx.db) (act_of tx.db tx.names ask) false
 
 module _ (h : List Entry) (schema : List Datom) (forms : List (List Act)) (ts : List Triple) (changes : List Datom) (tx : Transaction)
-    (db_is : tx.db ≡ db_of h) (acts : AreActs forms tx) (triples : AreTriples tx ts) (changes_are : changes ≡ tx.changes)
-    (known : IsKnown h schema) (compares : Compares tx) where
+    (db_is : tx.db ≡ db_of h) (acts : AreActs forms tx) (tempids : HasAssignedTempids tx) (triples : AreTriples tx ts)
+    (changes_are : changes ≡ tx.changes) (known : IsKnown h schema) (compares : Compares tx) where
   history_is : tx.db.history ≡ h
   history_is = ap (λ (db : Db). db.history) db_is
 
@@ -77,6 +81,9 @@ module _ (h : List Entry) (schema : List Datom) (forms : List (List Act)) (ts : 
 
   one_holders : HasOneHolders tx.db.history
   one_holders = subst HasOneHolders (sym history_is) (record { facts_hold = known.facts_hold; one_holder = known.one_holder })
+
+  lawful_before : IsLawful tx.db.history
+  lawful_before = subst IsLawful (sym history_is) known.lawful
 
   all_after : tx.after ≡ after h changes
   all_after =
@@ -96,7 +103,8 @@ module _ (h : List Entry) (schema : List Datom) (forms : List (List Act)) (ts : 
   unique_same : by_place tx (breaks_datoms_conflict tx) ≡ None → first_shared schema h changes ts ≡ by_place tx (breaks_unique_conflict tx)
   unique_same none =
       ap (λ g. first_shared schema g changes ts) (sym history_is) ∙ ap (λ ds. first_shared schema tx.db.history ds ts) changes_are
-      ∙ sym (unique_conflict tx ts schema acts.built triples tells one_holders facts_are (conflict_same ∙ none))
+      ∙ sym (unique_conflict tx ts schema acts.built triples tells one_holders facts_are (conflict_same ∙ none)
+      (alone tx ts schema acts.built triples tells lawful_before facts_are one_holders tempids))
 
   incomplete_same : first_incomplete schema (after h changes) ts ≡ by_place tx (breaks_incomplete_attribute tx)
   incomplete_same =

@@ -1,15 +1,17 @@
 -- Additions under unique attributes, by attribute and value.
 use Rattle.std.proofs.Common.{◌≡◌, ℕ, zero, suc, ◌+◌, ◌<◌, ◌≤◌, Bool, true, false, cond, not, ◌&&◌, ◌||◌, eqb, leb, List, [], ◌∷◌, length}
-use Rattle.std.proofs.Common.{get_or, refl, ap, sym, ◌∙◌, subst, arith, inl, inr, Option, None}
+use Rattle.std.proofs.Common.{get_or, drop, refl, ap, sym, ◌∙◌, subst, arith, inl, inr, Option, Some, None}
 use denote.Ref.{Bor}
-use Rattle.std.specs.Prelude.{filter, Contains, IsPermutation}
-use Rattle.std.specs.List.{list_any, list_all}
+use Rattle.std.specs.Prelude.{filter, Contains, IsPermutation, is_some}
+use Rattle.std.specs.List.{list_any, list_all, position, position_from}
 use Rattle.std.specs.List.Sorted.{IsSortedBy}
 use Rattle.std.specs.Ordering.{is_eq}
 use Rattle.std.proofs.lemmas.Bool.{true≢false, and_parts, and_from, and_left, leb-true, le-leb, eqb-true, eq-eqb, cases_order}
 use Rattle.std.proofs.lemmas.List.Folds.{list_any_at}
 use Rattle.std.proofs.lemmas.List.Sums.{length-filter}
-use Rattle.std.proofs.lemmas.List.Sorted.{sum_by-IsPermutation, list_any-IsPermutation}
+use Rattle.std.proofs.lemmas.Iterator.Adapters.{position_from-zero}
+use Rattle.std.proofs.lemmas.List.Quantifiers.{position-Some}
+use Rattle.std.proofs.lemmas.List.Sorted.{sum_by-IsPermutation, list_any-IsPermutation, IsPermutation-refl}
 use Rattle.std.proofs.lemmas.List.Elements.{filter_passes, All-contains}
 use Rattle.fb_values.specs.declared.facts.Datom.{Datom}
 use Rattle.fb_values.specs.declared.facts.Entry.{Entry}
@@ -21,9 +23,9 @@ use Rattle.tx_asks.specs.Triples.{rise}
 use Rattle.tx_rules.specs.Places.{first_where}
 use Rattle.tx_rules.specs.Neighbours.{behind, are_of_one_value, is_beside}
 use Rattle.tx_rules.specs.Conflicts.{is_addition}
-use Rattle.tx_rules.specs.Holders.{is_taker, is_other_taker, is_held_by_another, is_shared, first_shared, value_order, AreByValue}
+use Rattle.tx_rules.specs.Holders.{is_taker, is_other_taker, is_held_by_another, held_at, is_shared, first_shared, value_order, AreByValue}
 use Rattle.tx_rules.specs.Holders.{is_taken_twice, first_among}
-use Rattle.tx_rules.proofs.Earlier.{first_where-same, first_where-filter}
+use Rattle.tx_rules.proofs.Earlier.{earlier-none, first_where-same, first_where-filter}
 use Rattle.tx_rules.proofs.Passing.{two_kept, another_passes, PassesBeside}
 use Rattle.tx_rules.proofs.Sorted.{value_order_total, value_alike, beside-kept, triple_alike, apart, rise-filter}
 use Rattle.tx_rules.proofs.Triples.{value_eq-true, value_eq-refl}
@@ -31,12 +33,12 @@ use Rattle.tx_rules.proofs.Crowded.{same_tests, IsFound, found, all-at, any-filt
 use Rattle.tx_rules.proofs.Reached.{reaches, same_places, reaches-first_where, first_where-members}
 
 -- whoever has a neighbour of its value is not alone with it
-pub shared-twice : (h : List Entry) (changes : List Datom) (takers : List Triple) → AreByValue takers → (i : ℕ) (d : Triple)
+pub shared-twice : (h : List Entry) (schema changes : List Datom) (takers : List Triple) → AreByValue takers → (i : ℕ) (d : Triple)
     → i < length takers
-    → cond (is_beside are_of_one_value takers i d || is_held_by_another h changes (get_or takers i d)) (get_or takers i d).added None
-    ≡ cond (is_taken_twice takers (get_or takers i d) || is_held_by_another h changes (get_or takers i d)) (get_or takers i d).added None
-shared-twice h changes takers sorted i d within =
-    ap (λ b. cond (b || is_held_by_another h changes (get_or takers i d)) (get_or takers i d).added None)
+    → cond (is_beside are_of_one_value takers i d || is_held_by_another h schema changes (get_or takers i d)) (get_or takers i d).added None
+    ≡ cond (is_taken_twice takers (get_or takers i d) || is_held_by_another h schema changes (get_or takers i d)) (get_or takers i d).added None
+shared-twice h schema changes takers sorted i d within =
+    ap (λ b. cond (b || is_held_by_another h schema changes (get_or takers i d)) (get_or takers i d).added None)
     (alike_tests ∙ beside-kept value_order value_order_total takers sorted i d within ∙ twice_tests)
   where
     alike_tests : is_beside are_of_one_value takers i d ≡ is_beside (λ x y. is_eq (value_order x y)) takers i d
@@ -122,6 +124,45 @@ first_where-moved p place xs ys moved = same_places _ _ (λ n.
     ∙ sym (list_any-IsPermutation (λ t. p t && reaches n (place t)) xs ys moved)
     ∙ sym (reaches-first_where n p place xs))
 
+-- ---- by the place of the first one
+
+pub is_some-false : (o : Option ℕ) → is_some o ≡ false → o ≡ None
+is_some-false None is = refl
+is_some-false (Some n) is = absurd (true≢false is)
+
+module _ (test : Triple → Bool) where
+  none_from : (ts : List Triple) (n : ℕ) → position_from test n ts ≡ None → filter test ts ≡ []
+  none_from [] n none = refl
+  none_from (t ∷ ts) n none = go (test t) none (none_from ts (n + 1))
+    where
+      go : (b : Bool) → cond b (Some n) (position_from test (n + 1) ts) ≡ None
+          → (position_from test (n + 1) ts ≡ None → filter test ts ≡ [])
+          → cond b (t ∷ filter test ts) (filter test ts) ≡ []
+      go true none rest = absurd (cc)
+      go false none rest = rest none
+
+  none_kept : (ts : List Triple) → position test ts ≡ None → filter test ts ≡ []
+  none_kept ts none = none_from ts 0 (sym (position_from-zero test ts) ∙ none)
+
+  kept_from : (ts : List Triple) (i : ℕ) (d : Triple) → i < length ts → test (get_or ts i d) ≡ true
+      → ((k : ℕ) → k < i → test (get_or ts k d) ≡ false) → filter test ts ≡ get_or ts i d ∷ filter test (drop (suc i) ts)
+  kept_from [] i d within passes before = absurd (omega (arith, within))
+  kept_from (t ∷ ts) zero d within passes before = rw passes refl
+  kept_from (t ∷ ts) (suc i) d within passes before =
+      rw (before 0 (omega arith))
+      (kept_from ts i d (omega (arith, within)) passes (λ k below. before (suc k) (omega (arith, below))))
+
+  pub one_kept : (ts : List Triple) (i : ℕ) (d : Triple) → position test ts ≡ Some i → position test (drop (i + 1) ts) ≡ None
+      → filter test ts ≡ get_or ts i d ∷ []
+  one_kept ts i d first none =
+      let at = position-Some test ts i d first in
+      kept_from ts i d at.0 at.1 at.2
+      ∙ ap (λ rest. get_or ts i d ∷ rest)
+      (ap (λ n. filter test (drop n ts)) (next i) ∙ none_kept (drop (i + 1) ts) none)
+    where
+      next : (i : ℕ) → suc i ≡ i + 1
+      next i = omega arith
+
 module _ (schema : List Datom) (h : List Entry) (changes : List Datom) (ts : List Triple) (rising : rise ts ≡ true) where
   abbrev among : List Triple
   among = filter (is_taker schema) ts
@@ -146,16 +187,16 @@ module _ (schema : List Datom) (h : List Entry) (changes : List Datom) (ts : Lis
           absurd (true≢false (sym (and_from (is_addition other) (is_unique schema other.a) b_is
           (ap (is_unique schema) (eqb-true other.a t.a c_is) ∙ (and_parts (is_addition t) (is_unique schema t.a) taker).1)) ∙ none))
 
-  pub shared-takers : (takers : List Triple) → IsPermutation among takers → first_among h changes takers ≡ first_shared schema h changes ts
+  pub shared-takers : (takers : List Triple) → IsPermutation among takers → first_among h schema changes takers ≡ first_shared schema h changes ts
   shared-takers takers moved =
-      first_where-same (λ t. is_taken_twice takers t || is_held_by_another h changes t)
-      (λ t. is_taken_twice among t || is_held_by_another h changes t) (λ t. t.added)
-      (λ t. ap (λ b. b || is_held_by_another h changes t) (twice-moved among takers moved t)) takers
-      ∙ first_where-moved (λ t. is_taken_twice among t || is_held_by_another h changes t) (λ t. t.added) among takers moved
-      ∙ first_where-members (λ t. is_taken_twice among t || is_held_by_another h changes t)
-      (λ t. is_taker schema t && is_shared h changes ts t) (λ t. t.added) (λ t. t.added) among member_same
-      ∙ first_where-filter (λ t. is_taker schema t && is_shared h changes ts t) (is_taker schema) (λ t. t.added)
-      (λ t none. and_left (is_taker schema t) (is_shared h changes ts t) none) ts
+      first_where-same (λ t. is_taken_twice takers t || is_held_by_another h schema changes t)
+      (λ t. is_taken_twice among t || is_held_by_another h schema changes t) (λ t. t.added)
+      (λ t. ap (λ b. b || is_held_by_another h schema changes t) (twice-moved among takers moved t)) takers
+      ∙ first_where-moved (λ t. is_taken_twice among t || is_held_by_another h schema changes t) (λ t. t.added) among takers moved
+      ∙ first_where-members (λ t. is_taken_twice among t || is_held_by_another h schema changes t)
+      (λ t. is_taker schema t && is_shared h schema changes ts t) (λ t. t.added) (λ t. t.added) among member_same
+      ∙ first_where-filter (λ t. is_taker schema t && is_shared h schema changes ts t) (is_taker schema) (λ t. t.added)
+      (λ t none. and_left (is_taker schema t) (is_shared h schema changes ts t) none) ts
     where
       other_same : (t : Triple) → Contains among t → is_taker schema t ≡ true → is_taken_twice among t ≡ list_any (is_other_taker t) ts
       other_same t member taker =
@@ -171,11 +212,32 @@ module _ (schema : List Datom) (h : List Entry) (changes : List Datom) (ts : Lis
       with_taker false is c = absurd (true≢false (sym is))
 
       member_same : (t : Triple) → Contains among t
-          → cond (is_taken_twice among t || is_held_by_another h changes t) t.added None
-          ≡ cond (is_taker schema t && is_shared h changes ts t) t.added None
+          → cond (is_taken_twice among t || is_held_by_another h schema changes t) t.added None
+          ≡ cond (is_taker schema t && is_shared h schema changes ts t) t.added None
       member_same t member =
-          ap (λ b. cond (b || is_held_by_another h changes t) t.added None) (other_same t member (passed t member))
-          ∙ ap (λ b. cond b t.added None) (with_taker (is_taker schema t) (passed t member) (is_shared h changes ts t))
+          ap (λ b. cond (b || is_held_by_another h schema changes t) t.added None) (other_same t member (passed t member))
+          ∙ ap (λ b. cond b t.added None) (with_taker (is_taker schema t) (passed t member) (is_shared h schema changes ts t))
+
+  -- where there is none, or one alone
+  pub shared-none : position (is_taker schema) ts ≡ None → None ≡ first_shared schema h changes ts
+  shared-none none =
+      ap (first_among h schema changes) (sym (none_kept (is_taker schema) ts none)) ∙ shared-takers among (IsPermutation-refl among)
+
+  pub shared-one : (i : ℕ) (d : Triple) → position (is_taker schema) ts ≡ Some i → position (is_taker schema) (drop (i + 1) ts) ≡ None
+      → held_at h schema changes (get_or ts i d) ≡ first_shared schema h changes ts
+  shared-one i d first none =
+      alone (get_or ts i d)
+      ∙ ap (first_among h schema changes) (sym (one_kept (is_taker schema) ts i d first none))
+      ∙ shared-takers among (IsPermutation-refl among)
+    where
+      once : (t : Triple) (b : Bool) → leb 2 (length (cond b (t ∷ []) [])) ≡ false
+      once t true = refl
+      once t false = refl
+
+      alone : (t : Triple) → held_at h schema changes t ≡ first_among h schema changes (t ∷ [])
+      alone t =
+          ap (λ b. cond (b || is_held_by_another h schema changes t) t.added None) (sym (once t (are_of_one_value t t)))
+          ∙ sym (earlier-none (cond (is_taken_twice (t ∷ []) t || is_held_by_another h schema changes t) t.added None))
 
 -- ---- behind references
 

@@ -3,6 +3,7 @@ pub mod Cas
 pub mod Neighbours
 pub mod Conflicts
 pub mod Holders
+pub mod Tempids
 pub mod Whole
 pub mod Fixed
 pub mod Promises

@@ -1,91 +1,57 @@
 //! Triples of one transaction that cannot be recorded together.
-ghost use Rattle.std.specs.Prelude.{◌≡◌, ◌<◌, ◌&&◌, filter, length, slice_index_or, IfOk, IsTrue};
+ghost use Rattle.std.specs.Prelude.{◌≡◌, if◌then◌else◌, None, IsTrue};
+ghost use Rattle.std.specs.Option.{option_copied};
 ghost use Rattle.tx_asks.specs.Triples.{rise};
-ghost use Rattle.tx_rules.specs.Neighbours.{behind, are_of_one_entity, is_beside as model_is_beside};
+ghost use Rattle.tx_rules.specs.Neighbours.{are_of_one_entity};
 ghost use Rattle.tx_rules.specs.Conflicts as model;
 
 use crate::places::{asked_at, earlier};
-use fb_memory::Memory;
 use fb_schema::Schema;
-use std::alloc::Global;
 use tx_asks::Triple;
 
-/// The first form that asks a triple which is added beside another value of cardinality one, or added and retracted.
-pub fn first_conflict(
-    alloc: Global,
-    triples: &[Triple],
-    schema: &Schema,
-) -> Result<Option<usize>, Memory>
+/// The first form that asks a triple which is added beside another value of cardinality one, or added and retracted. The additions
+/// of an entity under an attribute are behind one another, so each is compared with the last one.
+pub fn first_conflict(triples: &[Triple], schema: &Schema) -> Option<usize>
     requires { IsTrue (rise triples.now) }
-    ensures { IfOk result (λ place. place ≡ model.first_conflict schema.now triples.now) }
-{
-    let added = additions(alloc, triples)?;
-    Ok(first_among(&added, schema))
-}
-
-/// The triples that are added.
-fn additions<'a>(alloc: Global, triples: &'a [Triple]) -> Result<Vec<&'a Triple>, Memory>
-    ensures { IfOk result (λ added. behind added.items ≡ filter model.is_addition triples.now) }
-{
-    let mut added = Vec::new(alloc);
-    for triple in triples {
-        if triple.added.is_some() {
-            added.push(triple)?;
-        }
-    }
-    Ok(added)
-}
-
-fn first_among(added: &[&Triple], schema: &Schema) -> Option<usize>
-    requires { model.AreAdditions (behind added.now) }
-    ensures { result ≡ model.first_conflict schema.now (behind added.now) }
+    ensures { result ≡ model.first_conflict schema.now triples.now }
 {
     let mut first = None;
-    for i in 0..added.len() {
-        first = earlier(first, conflict_at(added, i, schema));
+    let mut last = None;
+    for triple in triples {
+        if triple.added.is_some() {
+            first = earlier(first, conflict_at(last, triple, schema));
+            last = Some(triple);
+        }
     }
     first
 }
 
-/// The first form that asks the triple, if it conflicts with others.
-fn conflict_at(added: &[&Triple], i: usize, schema: &Schema) -> Option<usize>
-    requires within { i < length added.now }
-    requires additions { model.AreAdditions (behind added.now) }
-    ensures { (d : Triple)
-        → result
-        ≡ model.conflict_at schema.now (behind added.now) (slice_index_or (behind added.now) i d) }
+/// The first form that asks the addition or the last one before it, if it conflicts with that one or is withdrawn.
+fn conflict_at(last: Option<&Triple>, triple: &Triple, schema: &Schema) -> Option<usize>
+    ensures { result ≡ model.conflict_at schema.now (option_copied last.entry) triple.now }
 {
-    if conflicts(added, i, schema) {
-        asked_at(added[i])
+    earlier(withdrawn_at(triple), beside_at(last, triple, schema))
+}
+
+fn withdrawn_at(triple: &Triple) -> Option<usize>
+    ensures { result ≡ model.withdrawn_at triple.now }
+{
+    if triple.retracted.is_some() || triple.swept.is_some() {
+        asked_at(triple)
     } else {
         None
     }
 }
 
-fn conflicts(added: &[&Triple], i: usize, schema: &Schema) -> bool
-    requires within { i < length added.now }
-    requires additions { model.AreAdditions (behind added.now) }
-    ensures { (d : Triple)
-        → result
-        ≡ model.conflicts schema.now (behind added.now) (slice_index_or (behind added.now) i d) }
+fn beside_at(last: Option<&Triple>, triple: &Triple, schema: &Schema) -> Option<usize>
+    ensures { result ≡ model.beside_at schema.now (option_copied last.entry) triple.now }
 {
-    let triple = added[i];
-    is_withdrawn(triple) || (is_crowded(added, i) && schema.is_one(triple.a))
-}
-
-fn is_withdrawn(triple: &Triple) -> bool
-    ensures { result ≡ model.is_withdrawn triple.now }
-{
-    triple.retracted.is_some() || triple.swept.is_some()
-}
-
-/// Whether a neighbour is of the same entity and attribute.
-fn is_crowded(added: &[&Triple], i: usize) -> bool
-    requires within { i < length added.now }
-    ensures { (d : Triple) → result ≡ model_is_beside are_of_one_entity (behind added.now) i d }
-{
-    (i > 0 && is_beside(added[i - 1], added[i]))
-        || (i + 1 < added.len() && is_beside(added[i], added[i + 1]))
+    match last {
+        Some(last) if is_beside(last, triple) && schema.is_one(triple.a) => {
+            earlier(asked_at(last), asked_at(triple))
+        }
+        _ => None,
+    }
 }
 
 fn is_beside(x: &Triple, y: &Triple) -> bool

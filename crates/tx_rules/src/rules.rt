@@ -9,6 +9,7 @@ ghost use Rattle.tx_asks.specs.Acts.{AreActs};
 ghost use Rattle.tx_asks.specs.Triples.{rise, AreTriples};
 ghost use Rattle.tx_after.specs.After.{AreChanges};
 ghost use Rattle.tx_rules.specs.Cas.{acts_of};
+ghost use Rattle.tx_rules.specs.Tempids.{HasAssignedTempids};
 ghost use Rattle.tx_rules.specs.Rules.{change_rules, first_place as model_first_place, with_first};
 
 use crate::cas::{first_failed, first_of_many};
@@ -76,7 +77,7 @@ impl ChangeRule {
 }
 
 /// Why a transaction that breaks no rule on names is refused, if it is: by its acts form by form, its triples, and what it
-/// changes. A rule is judged where no lower one is broken.
+/// changes. A rule is judged where no lower one is broken. Its tempids are the entities that are assigned to them.
 pub fn least_refusal<F: Facts>(
     alloc: Global,
     forms: &[Vec<Act<'_>>],
@@ -90,7 +91,8 @@ pub fn least_refusal<F: Facts>(
     requires rising { IsTrue (rise triples.now) }
     requires changes { AreChanges changes.now }
     ensures { (tx : model.Transaction) → tx.db ≡ db_of (F.history facts.now)
-        → AreActs (acts_of forms.now) tx → AreTriples tx triples.now → changes.now ≡ tx.changes
+        → AreActs (acts_of forms.now) tx → HasAssignedTempids tx → AreTriples tx triples.now
+        → changes.now ≡ tx.changes
         → IfOk result (λ refusal. refusal ≡ first_refusal (change_rules tx)) }
 {
     schemas_tell_of_attributes();
@@ -160,7 +162,7 @@ fn first_place<F: Facts>(
     match rule {
         ChangeRule::CasMany => Ok(first_of_many(forms)),
         ChangeRule::CasFailed => first_failed(forms, facts),
-        ChangeRule::DatomsConflict => first_conflict(alloc, triples, schema),
+        ChangeRule::DatomsConflict => Ok(first_conflict(triples, schema)),
         ChangeRule::UniqueConflict => first_shared(alloc, triples, changes, facts, schema),
         ChangeRule::IncompleteAttribute => first_incomplete(triples, changes, facts, schema),
         ChangeRule::AttributeFixed => Ok(first_fixed(triples, schema)),

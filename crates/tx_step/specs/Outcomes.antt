@@ -10,6 +10,7 @@ use Rattle.tx_model.specs.Tempids.{db_of}
 use Rattle.tx_model.specs.Transaction.{Transaction, transaction}
 use Rattle.tx_model.specs.Step.{Decision, refused, Guard, broken_rules, first_refusal}
 use Rattle.tx_model.specs.Step.{unless_refused, under_guard}
+use Rattle.tx_rules.specs.Tempids.{HasAssignedTempids}
 use Rattle.tx_rules.specs.Rules.{change_rules}
 use Rattle.tx_asks.specs.Acts.{Act, AreActs}
 
@@ -31,12 +32,15 @@ abbrev pub judged_step : List Entry → Transaction → ℤ → Guard → Decisi
 judged_step h tx reading guard =
     refusal_or (first_refusal (change_rules tx)) (under_guard h tx reading (guard h tx.changes))
 
--- the acts are those of a transaction at the history
+-- the acts are those of a transaction at the history, with the entities that are assigned to its
+-- tempids
 pub record IsSomeTransaction (h : List Entry) (acts : List (List Act)) : Type 0 where
   pub tx : Transaction
   pub db_is : tx.db ≡ db_of h
   pub acts_are : AreActs acts tx
+  pub tempids_are : HasAssignedTempids tx
 
--- it holds of each transaction at the history that has these acts
+-- it holds of each such transaction
 abbrev pub OfTransactions : List Entry → List (List Act) → (Transaction → Type 0) → Type 0
-OfTransactions h acts holds = (tx : Transaction) → tx.db ≡ db_of h → AreActs acts tx → holds tx
+OfTransactions h acts holds =
+    (tx : Transaction) → tx.db ≡ db_of h → AreActs acts tx → HasAssignedTempids tx → holds tx

@@ -7,13 +7,16 @@ ghost use Rattle.bench.specs.Seats.{IsFresh};
 
 use super::fixed::{Fixed, Sheet, sheets};
 use board_mail::{Mail, peek};
-use board_rule::{Board, BoardSeat, BoardStop, Mails, step_split};
+use board_rule::{Board, BoardSeat, BoardStop, Mails, Patience, step_split};
 use board_turn::{draw, leave, turn};
 use fb_memory::Memory;
 use std::alloc::Global;
 use std::sync::Wait;
 use std::thread;
 use std::thread::Threads;
+
+/// The turns are read as on a machine of four processors.
+const PROCESSORS: usize = 4;
 
 fn open(alloc: Global, sessions: u32) -> Result<(Board<Fixed, Sheet>, BoardSeat), Memory>
     requires { sessions ≤ 64 }
@@ -22,7 +25,8 @@ fn open(alloc: Global, sessions: u32) -> Result<(Board<Fixed, Sheet>, BoardSeat)
     ensures seat { IfOk result (λ r. ((view_of r.1).number ≡ worker) × ((view_of r.1).given ≡ 0)) }
 {
     let home = Fixed { counter: 0 };
-    match Board::new(alloc, home, 0, Mails::of(sheets(alloc, sessions)?)) {
+    let mails = Mails::of(sheets(alloc, sessions)?);
+    match Board::new(alloc, home, 0, mails, Patience::on(PROCESSORS)) {
         Ok(made) => Ok(made),
         Err(BoardStop { home: _ }) => Err(Memory),
     }

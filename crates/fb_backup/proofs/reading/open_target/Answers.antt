@@ -1,4 +1,4 @@
-use Rattle.std.proofs.Common.{◌∙◌, ⊎_elim, sym, ap, subst}
+use Rattle.std.proofs.Common.{[], ◌∙◌, ⊎_elim, sym, ap, subst}
 use Rattle.disk_model.specs.Disk.{LeavesOnly}
 use Rattle.disk_model.specs.Journal.{log_mark}
 use Rattle.disk_model.proofs.Moments.{weakened}
@@ -9,14 +9,14 @@ use Rattle.fb_journal.specs.Readings.{LeavesBegun}
 use Rattle.fb_view.proofs.Beginnings.{upto_basis}
 use Rattle.fb_backup.specs.Backups.{IsBackupCause}
 use Rattle.fb_backup.proofs.Beginnings.{new-from, same-from}
-use Rattle.fb_backup.proofs.Causes.{start-cause}
+use Rattle.fb_backup.proofs.Causes.{reading-cause}
 use Rattle.fb_backup.proofs.reading.open_target.Goals as goal
 
 pub returns-in-Err-clause-why_not : goal.returns-in-Err-clause-why_not
 returns-in-Err-clause-why_not g c = λ file told.
     let stop = c.in-Err.field-0 in
     let h = c.args.entries.now in
-    let cause = start-cause (g.D.Disk.bytes c.args.disk) h stop.before stop.fault c.in-Err.ensures.why_not file told in
+    let cause = reading-cause (g.D.Disk.bytes c.args.disk) h [] stop.fault c.in-Err.ensures.why_not file told in
     subst (λ fault. IsBackupCause h fault file) (sym c.from-fault.ensures) cause
 
 -- where a crash leaves an image from before, or a new log of a new one

@@ -1,4 +1,4 @@
-use Rattle.std.proofs.Common.{false, sym, ◌∙◌, subst, Option, Some, Result, Ok, Err}
+use Rattle.std.proofs.Common.{sym, ◌∙◌, subst, Option, Some, Result, Ok, Err}
 use Rattle.std.proofs.lemmas.Result.{err_from_is_err_and}
 use Rattle.edn_form.specs.View.{form_of}
 use Rattle.fb_values.specs.declared.facts.Value.{Value}
@@ -7,7 +7,6 @@ use Rattle.fb_db.specs.Seen.{window_of}
 use Rattle.read_refusals.specs.declared.reasons.Refusal.{Refusal}
 use Rattle.read_model.specs.Components.{value_given, end_given}
 use Rattle.fb_names.specs.Answers.{IsGiven}
-use Rattle.fb_names.specs.Ranges.{is_nil}
 use Rattle.fb_names.proofs.Reading.{stopped, value_found, value_refused, end_is_value}
 use Rattle.fb_names.proofs.ranges.range_end.Goals as goal
 

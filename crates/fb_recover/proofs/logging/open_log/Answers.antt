@@ -1,4 +1,4 @@
-use Rattle.std.proofs.Common.{◌⊎◌, ◌∙◌, inl, inr, ⊎_elim, sym, ap, subst}
+use Rattle.std.proofs.Common.{[], ◌⊎◌, ◌∙◌, inl, inr, ⊎_elim, sym, ap, subst}
 use Rattle.disk_model.specs.Disk.{LeavesOnly}
 use Rattle.disk_model.specs.Journal.{log_mark}
 use Rattle.disk_model.proofs.Moments.{weakened}
@@ -6,13 +6,13 @@ use Rattle.log_model.specs.Log.{IsLogOf}
 use Rattle.fb_journal.specs.Readings.{LeavesBegun}
 use Rattle.disk_log.proofs.Histories.{stands-count}
 use Rattle.fb_recover.specs.Faults.{IsCause}
-use Rattle.fb_recover.proofs.Causes.{start-cause}
+use Rattle.fb_recover.proofs.Causes.{reading-cause}
 use Rattle.fb_recover.proofs.logging.open_log.Goals as goal
 
 pub returns-in-Err-clause-why_not : goal.returns-in-Err-clause-why_not
 returns-in-Err-clause-why_not g c = λ file told.
     let stop = c.in-Err.field-0 in
-    let cause = start-cause (g.D.Disk.bytes c.args.disk) stop.fault stop.before c.in-Err.ensures.why_not file told in
+    let cause = reading-cause (g.D.Disk.bytes c.args.disk) stop.fault [] c.in-Err.ensures.why_not file told in
     subst (λ fault. IsCause fault file) (sym c.from-fault.ensures) cause
 
 pub finish-requires : goal.finish-requires

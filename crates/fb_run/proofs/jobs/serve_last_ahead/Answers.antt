@@ -1,7 +1,7 @@
 use Rattle.std.proofs.Common.{◌≡◌, ◌+◌, ◌-◌, length, take, set, subst, sym, arith, rules}
 use Rattle.std.proofs.lemmas.List.{length-take, length-set}
 use Rattle.fb_conn.specs.Seats.{state_of}
-use Rattle.fb_session.specs.Sessions.{terms_at}
+use Rattle.fb_session.specs.Terms.{terms_at}
 use Rattle.fb_run.specs.Outside.{streams_of}
 use Rattle.fb_run.specs.Jobs.{HasTalked}
 use Rattle.fb_run.proofs.Ahead.{each_served}

@@ -1,7 +1,7 @@
 use Rattle.std.proofs.Common.{◌≡◌, ◌⊎◌, inr, ◌∙◌, Option, Some, sym, ap, subst, arith}
 use Rattle.std.proofs.lemmas.Option.{IfSome_then}
 use Rattle.std.specs.Prelude.{IfSome, string_bytes}
-use Rattle.fb_session.specs.Sessions.{terms_at}
+use Rattle.fb_session.specs.Terms.{terms_at}
 use Rattle.fb_model.specs.History.{upto}
 use Rattle.disk_model.specs.Disk.{IfKnown}
 use Rattle.log_model.specs.Log.{IsLogOf}

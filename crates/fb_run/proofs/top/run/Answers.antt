@@ -1,7 +1,7 @@
 use Rattle.std.proofs.Common.{◌≡◌, ◌∙◌, [], ap, subst, refl, Option, Some, map}
 use Rattle.std.specs.Prelude.{IfSome, string_bytes}
 use Rattle.std.specs.Option.{unwrap_or}
-use Rattle.fb_session.specs.Sessions.{terms_at}
+use Rattle.fb_session.specs.Terms.{terms_at}
 use Rattle.command_line.specs.Words.{Command, check, command_of, load, scripts_of, merge_at_of}
 use Rattle.command_line.specs.Views.{names_in, run_by, backup_by}
 use Rattle.fb_run.specs.Outside.{streams_of, disks_of, ports_of, OpensOnly}

@@ -1,6 +1,5 @@
 use Rattle.std.proofs.Common.{Bor, length, map}
 use Rattle.fb_values.specs.declared.facts.Datom.{Datom}
-use Rattle.fb_db.specs.Seen.{window_of}
 use Rattle.fb_scan.specs.Steps.{HasGiven}
 use Rattle.fb_scan.proofs.Stepping.{IsUpto}
 use Rattle.fb_scan.proofs.walk.lend.Given as goal

@@ -1,6 +1,6 @@
 use Rattle.std.proofs.Common.{ℕ, List, sym, subst}
 use Rattle.fb_session.specs.Taken.{TakesAll}
-use Rattle.fb_session.specs.Sessions.{terms_at}
+use Rattle.fb_session.specs.Terms.{terms_at}
 use Rattle.fb_session.proofs.Serving.{replies-whole, replies-unread, prefixes-talk, asks-nothing}
 use Rattle.fb_session.proofs.Seeing.{went_on-nothing}
 use Rattle.fb_session.proofs.serve.serve_desk.Goals as goal

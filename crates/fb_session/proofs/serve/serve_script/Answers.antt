@@ -1,5 +1,6 @@
 use Rattle.std.proofs.Common.{subst}
-use Rattle.fb_session.specs.Sessions.{terms_at, served_by, Talks}
+use Rattle.fb_session.specs.Sessions.{served_by, Talks}
+use Rattle.fb_session.specs.Terms.{terms_at}
 use Rattle.fb_session.proofs.Serving.{talks-unopened}
 use Rattle.fb_session.proofs.serve.serve_script.Goals as goal
 

@@ -8,7 +8,8 @@ abbrev pub invariant-loop-ask : goal.invariant-loop-ask
 invariant-loop-ask g l =
     let db = db_of (g.F.Facts.history l.facts) in
     let looked_up = l.found in
+    let met = l.met in
     record {
-      found : map Some l.drafts.items ≡ map (draft_of db looked_up) (take l.ask-index l.asks);
-      lost : list_any (is_lost db looked_up) (drop l.ask-index l.asks) ≡ list_any (is_lost db looked_up) l.asks;
+      found : map Some l.drafts.items ≡ map (draft_of db looked_up met) (take l.ask-index l.asks);
+      lost : list_any (is_lost db looked_up met) (drop l.ask-index l.asks) ≡ list_any (is_lost db looked_up met) l.asks;
     }

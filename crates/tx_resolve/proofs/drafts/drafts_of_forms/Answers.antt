@@ -22,40 +22,43 @@ pub loop-asks-preserved : goal.loop-asks-preserved
 loop-asks-preserved g c =
     let db = db_of (g.F.Facts.history c.args.facts.now) in
     let looked_up = c.args.found.now in
-    let found : map Some c.in-Some.drafts.items ≡ map (draft_of db looked_up) c.asks-item.result.items =
-    found_in (draft_of db looked_up) (λ (form : Vec Draft Global). map Some form.items) c.in_ok-drafts.field-0 c.in-Some.drafts
+    let met = c.args.met.now in
+    let found : map Some c.in-Some.drafts.items ≡ map (draft_of db looked_up met) c.asks-item.result.items =
+    found_in (draft_of db looked_up met) (λ (form : Vec Draft Global). map Some form.items) c.in_ok-drafts.field-0 c.in-Some.drafts
     c.deref.result.now c.asks-item.result.items c.in-Some.is c.deref.ensures.value c.in_ok-drafts.ensures.found in
-    let kept : list_any (is_lost db looked_up) c.asks-item.result.items ≡ false =
-    lost_in (is_lost db looked_up) c.in_ok-drafts.field-0
+    let kept : list_any (is_lost db looked_up met) c.asks-item.result.items ≡ false =
+    lost_in (is_lost db looked_up met) c.in_ok-drafts.field-0
     (Some c.in-Some.drafts) c.deref.result.now c.asks-item.result.items c.in-Some.is c.deref.ensures.value c.in_ok-drafts.ensures.lost in
     record {
       counted = ap (λ n. n + 1) c.loop-asks.invariant.counted;
       found =
-          given_more (λ (form : Vec Draft Global). map Some form.items) (λ (form : Vec Ask Global). map (draft_of db looked_up) form.items)
+          given_more (λ (form : Vec Draft Global). map Some form.items) (λ (form : Vec Ask Global). map (draft_of db looked_up met) form.items)
           c.args.forms.now c.loop-asks.forms_found.items c.push.new.self.items c.loop-asks.asks-index c.asks-item.result c.in-Some.drafts
           c.loop-asks-test.true c.asks-item.is found c.in_ok-push.ensures.items c.loop-asks.invariant.found;
       lost =
-          first_later (λ (form : Vec Ask Global). list_any (is_lost db looked_up) form.items)
+          first_later (λ (form : Vec Ask Global). list_any (is_lost db looked_up met) form.items)
           c.args.forms.now c.loop-asks.asks-index c.asks-item.result c.loop-asks-test.true c.asks-item.is c.loop-asks.place
-          (lost_at db looked_up c.args.forms.now) kept c.loop-asks.invariant.lost;
+          (lost_at db looked_up met c.args.forms.now) kept c.loop-asks.invariant.lost;
     }
 
 pub returns-in_default-clause-refused : goal.returns-in_default-clause-refused
 returns-in_default-clause-refused g c =
     let db = db_of (g.F.Facts.history c.args.facts.now) in
     let looked_up = c.args.found.now in
-    let lost : list_any (is_lost db looked_up) c.asks-item.result.items ≡ true =
-    lost_in (is_lost db looked_up) c.in_ok-drafts.field-0 None c.deref.result.now c.asks-item.result.items c.in_default.is
+    let met = c.args.met.now in
+    let lost : list_any (is_lost db looked_up met) c.asks-item.result.items ≡ true =
+    lost_in (is_lost db looked_up met) c.in_ok-drafts.field-0 None c.deref.result.now c.asks-item.result.items c.in_default.is
     c.deref.ensures.value c.in_ok-drafts.ensures.lost in
-    let first : Some c.loop-asks.place ≡ lost_at db looked_up c.args.forms.now =
-    first_here (λ (form : Vec Ask Global). list_any (is_lost db looked_up) form.items) c.args.forms.now c.loop-asks.asks-index
+    let first : Some c.loop-asks.place ≡ lost_at db looked_up met c.args.forms.now =
+    first_here (λ (form : Vec Ask Global). list_any (is_lost db looked_up met) form.items) c.args.forms.now c.loop-asks.asks-index
     c.asks-item.result c.loop-asks-test.true c.asks-item.is c.loop-asks.place
-    (lost_at db looked_up c.args.forms.now) lost c.loop-asks.invariant.lost in
+    (lost_at db looked_up met c.args.forms.now) lost c.loop-asks.invariant.lost in
     ap (λ o. first_refusal ((NotAnEntity, o) ∷ [])) (sym first)
 
 pub returns-clause-unbroken : goal.returns-clause-unbroken
 returns-clause-unbroken g c =
     let db = db_of (g.F.Facts.history c.args.facts.now) in
     let looked_up = c.args.found.now in
-    sym (first_left (λ (form : Vec Ask Global). list_any (is_lost db looked_up) form.items) c.args.forms.now c.loop-asks.asks-index
-    c.loop-asks-test.false c.loop-asks.place (lost_at db looked_up c.args.forms.now) c.loop-asks.invariant.lost)
+    let met = c.args.met.now in
+    sym (first_left (λ (form : Vec Ask Global). list_any (is_lost db looked_up met) form.items) c.args.forms.now c.loop-asks.asks-index
+    c.loop-asks-test.false c.loop-asks.place (lost_at db looked_up met c.args.forms.now) c.loop-asks.invariant.lost)

@@ -9,10 +9,11 @@ abbrev pub invariant-loop-asks : goal.invariant-loop-asks
 invariant-loop-asks g l =
     let db = db_of (g.F.Facts.history l.facts) in
     let looked_up = l.found in
+    let met = l.met in
     record {
       counted : l.place ≡ l.asks-index;
       found : map (λ form. map Some form.items) l.forms_found.items
-          ≡ map (λ form. map (draft_of db looked_up) form.items) (take l.asks-index l.forms);
-      lost : first_yes l.place (map (λ form. list_any (is_lost db looked_up) form.items) (drop l.asks-index l.forms))
-          ≡ lost_at db looked_up l.forms;
+          ≡ map (λ form. map (draft_of db looked_up met) form.items) (take l.asks-index l.forms);
+      lost : first_yes l.place (map (λ form. list_any (is_lost db looked_up met) form.items) (drop l.asks-index l.forms))
+          ≡ lost_at db looked_up met l.forms;
     }

@@ -1,7 +1,6 @@
-use Rattle.std.proofs.Common.{◌≡◌, [], drop, flat_map}
-use Rattle.tx_resolve.specs.Meeting.{tempids_of, met_with, drafts_in}
+use Rattle.std.proofs.Common.{take, flat_map, []}
+use Rattle.tx_resolve.specs.Meeting.{tempids_of, asks_in, met_with, AreMet}
 use Rattle.tx_resolve.proofs.meeting.met_in.Given as goal
 
-abbrev pub invariant-loop-drafts : goal.invariant-loop-drafts
-invariant-loop-drafts l =
-    met_with l.met (flat_map tempids_of (drafts_in (drop l.drafts-index l.forms))) ≡ met_with [] (flat_map tempids_of (drafts_in l.forms))
+abbrev pub invariant-loop-asks : goal.invariant-loop-asks
+invariant-loop-asks l = AreMet l.met (met_with [] (flat_map tempids_of (asks_in (take l.asks-index l.forms))))

@@ -1,11 +1,7 @@
-use Rattle.std.proofs.Common.{◌≡◌, List, drop}
+use Rattle.std.proofs.Common.{◌≡◌, drop}
 use Rattle.std.specs.List.{list_any}
-use Rattle.tx_resolve.specs.declared.drafts.Draft.{Draft}
-use Rattle.tx_resolve.specs.Holders.{AreHolders}
 use Rattle.tx_resolve.specs.Breaks.{gives_one_of_two}
 use Rattle.tx_resolve.proofs.rules.has_conflict.Given as goal
 
 abbrev pub invariant-loop-draft : goal.invariant-loop-draft
-invariant-loop-draft l =
-    (all : List Draft) → AreHolders l.kept all
-    → list_any (gives_one_of_two all) (drop l.draft-index l.drafts) ≡ list_any (gives_one_of_two all) l.drafts
+invariant-loop-draft l = list_any (gives_one_of_two l.slots) (drop l.draft-index l.drafts) ≡ list_any (gives_one_of_two l.slots) l.drafts

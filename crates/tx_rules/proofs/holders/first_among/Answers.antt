@@ -11,13 +11,14 @@ pub loop-i-preserved : goal.loop-i-preserved
 loop-i-preserved g c =
     let takers = behind c.args.takers.now in
     let h = g.F.Facts.history c.args.facts.now in
+    let schema = c.args.schema.now in
     let changes = c.args.changes.now in
     let i = c.loop-i.i in
     ap (λ first.
-    earlier first (first_where (λ t. is_taken_twice takers t || is_held_by_another h changes t) (λ t. t.added) (drop (i + 1) takers)))
+    earlier first (first_where (λ t. is_taken_twice takers t || is_held_by_another h schema changes t) (λ t. t.added) (drop (i + 1) takers)))
     (c.earlier-first.ensures
     ∙ ap (earlier c.loop-i.first)
-    (c.shared_at.ensures blank ∙ shared-twice h changes takers c.requires.sorted i blank (omega (arith, length-behind c.args.takers.now))))
-    ∙ sym (first_where-step (λ t. is_taken_twice takers t || is_held_by_another h changes t) (λ t. t.added) takers i blank c.loop-i.first
+    (c.shared_at.ensures blank ∙ shared-twice h schema changes takers c.requires.sorted i blank (omega (arith, length-behind c.args.takers.now))))
+    ∙ sym (first_where-step (λ t. is_taken_twice takers t || is_held_by_another h schema changes t) (λ t. t.added) takers i blank c.loop-i.first
     (omega (arith, length-behind c.args.takers.now)))
     ∙ c.loop-i.invariant

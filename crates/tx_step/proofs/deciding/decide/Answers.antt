@@ -11,6 +11,7 @@ use Rattle.tx_asks.specs.Acts.{AreActs}
 use Rattle.tx_rules.specs.Cas.{acts_of}
 use Rattle.tx_step.specs.Outcomes.{Matches, IsSomeTransaction, judged_step}
 use Rattle.tx_step.proofs.Steps as steps
+use Rattle.tx_step.proofs.Tempids as tempids
 use Rattle.tx_step.proofs.deciding.decide.Goals as goal
 
 pub returns-in_err-forms-clause-refused : goal.returns-in_err-forms-clause-refused
@@ -55,7 +56,12 @@ judged-requires-clause-acts g c =
     let fs = read.0 in
     let asks = c.in_ok-flat.ensures.asks h fs c.requires.stands read.3 in
     subst (λ list. IsSomeTransaction h (acts_of list)) (sym c.deref.ensures.value)
-    (record { tx = transaction h fs; db_is = refl; acts_are = c.in_ok-acts.ensures.acts (flat (facts h) fs) asks })
+    (record {
+      tx = transaction h fs;
+      db_is = refl;
+      acts_are = c.in_ok-acts.ensures.acts (flat (facts h) fs) asks;
+      tempids_are = tempids.assigned h fs read.2;
+    })
 
 pub returns-clause-accepted : goal.returns-clause-accepted
 returns-clause-accepted g c =
@@ -73,7 +79,7 @@ returns-clause-accepted g c =
     ∙ ap (λ reading. judged_step h (transaction h fs) reading bars) (sym (to_z-of_z w64 c.args.reading c.ranges.reading)) in
     IfOk-weaker c.judged.result _ _
     (λ done of. subst (λ decision. decision ≡ accepted done.entry done.tempids.items) (sym decided)
-    (of (transaction h fs) refl acts names))
+    (of (transaction h fs) refl acts (tempids.assigned h fs read.2) names))
     c.judged.ensures.accepted
 
 pub returns-clause-refused : goal.returns-clause-refused
@@ -91,4 +97,4 @@ returns-clause-refused g c =
     (c.in_ok-acts.ensures.unbroken (flat (facts h) fs) asks)
     ∙ ap (λ reading. judged_step h (transaction h fs) reading bars) (sym (to_z-of_z w64 c.args.reading c.ranges.reading)) in
     IfErr-weaker c.judged.result _ _
-    (λ stop of. subst (Matches stop) (sym decided) (of (transaction h fs) refl acts names)) c.judged.ensures.refused
+    (λ stop of. subst (Matches stop) (sym decided) (of (transaction h fs) refl acts (tempids.assigned h fs read.2) names)) c.judged.ensures.refused

@@ -22,20 +22,20 @@ least_refusal-requires-clause-changes g c =
     (c.changes_are_of_one_entry.ensures one.tx one.acts_are.built)
 
 pub returns-in-Some-clause-refused : goal.returns-in-Some-clause-refused
-returns-in-Some-clause-refused g c tx db_is acts_are =
+returns-in-Some-clause-refused g c tx db_is acts_are tempids =
     let triples = subst (AreTriples tx) (sym c.deref.ensures.value) (c.in_ok-triples.ensures tx db_is acts_are) in
     let again = subst (AreTriples tx) (sym c.deref-2.ensures.value) (c.in_ok-triples.ensures tx db_is acts_are) in
     let next = ap (λ t. t + 1) (c.basis.ensures ∙ ap (λ db. history.basis db.history) (sym db_is)) in
     let changes_are = c.as_slice.ensures.value ∙ c.in_ok-changes.ensures tx acts_are.built triples next in
-    sym (c.in_ok-refusal.ensures tx db_is acts_are again changes_are) ∙ c.in-Some.is
+    sym (c.in_ok-refusal.ensures tx db_is acts_are tempids again changes_are) ∙ c.in-Some.is
 
 pub returns-clause-unbroken : goal.returns-clause-unbroken
-returns-clause-unbroken g c tx db_is acts_are =
+returns-clause-unbroken g c tx db_is acts_are tempids =
     let triples = subst (AreTriples tx) (sym c.deref.ensures.value) (c.in_ok-triples.ensures tx db_is acts_are) in
     let again = subst (AreTriples tx) (sym c.deref-2.ensures.value) (c.in_ok-triples.ensures tx db_is acts_are) in
     let next = ap (λ t. t + 1) (c.basis.ensures ∙ ap (λ db. history.basis db.history) (sym db_is)) in
     let changes_are = c.as_slice.ensures.value ∙ c.in_ok-changes.ensures tx acts_are.built triples next in
-    sym (c.in_ok-refusal.ensures tx db_is acts_are again changes_are) ∙ c.in-None.is
+    sym (c.in_ok-refusal.ensures tx db_is acts_are tempids again changes_are) ∙ c.in-None.is
 
 pub returns-clause-changes_are : goal.returns-clause-changes_are
 returns-clause-changes_are g c =
@@ -52,5 +52,5 @@ returns-clause-room g c =
     let again = subst (AreTriples one.tx) (sym c.deref-2.ensures.value) (c.in_ok-triples.ensures one.tx one.db_is one.acts_are) in
     let next = ap (λ t. t + 1) (c.basis.ensures ∙ ap (λ db. history.basis db.history) (sym one.db_is)) in
     let changes_are = c.as_slice.ensures.value ∙ c.in_ok-changes.ensures one.tx one.acts_are.built triples next in
-    let unbroken = sym (c.in_ok-refusal.ensures one.tx one.db_is one.acts_are again changes_are) ∙ c.in-None.is in
+    let unbroken = sym (c.in_ok-refusal.ensures one.tx one.db_is one.acts_are one.tempids_are again changes_are) ∙ c.in-None.is in
     subst (λ db. history.last_instant db.history <ℤ greatest_instant) one.db_is (steps.room_left one.tx unbroken)

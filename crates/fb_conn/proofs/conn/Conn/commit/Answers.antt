@@ -12,8 +12,8 @@ use Rattle.fb_conn.proofs.Histories.{follows_lawful}
 use Rattle.fb_conn.proofs.Turning.{holds, is_committed}
 use Rattle.fb_conn.proofs.conn.Conn.commit.Goals as goal
 
-pub add-requires-clause-entry : goal.add-requires-clause-entry
-add-requires-clause-entry g c =
+pub add-replaced-requires-clause-entry : goal.add-replaced-requires-clause-entry
+add-replaced-requires-clause-entry g c =
     let h = c.args.held.home.core.snapshot.entries in let entry = entry_of c.args.draft in let own = c.requires.draft in
     let grown =
     ap (λ (p : CoreParts). p.snapshot.entries) c.accept-before.ensures.core
@@ -40,10 +40,10 @@ returns-clause-view g c =
     ∙ (ap (λ (k : SnapshotModel). k.covered) c.take_tempids-tempids.ensures.after ∙ own.covered) in
     let t : c.basis-t.result ≡ basis draft.after.entries =
     c.basis-t.ensures.basis ∙ ap (λ (k : SnapshotModel). basis k.entries) c.requires.after in
-    let count = IsLawful-length draft.after.entries own.stands.history.lawful in let adds = c.add.ensures.gained in
+    let count = IsLawful-length draft.after.entries own.stands.history.lawful in let adds = c.add-replaced.ensures.gained in
     let u : ℕ = adds.0 in let at : u + 1 ≡ length c.accept-before.new.self.snapshot.entries = adds.1 in
-    is_committed (view_of c.args.seat.now.board) (view_of c.add.new.seat)
+    is_committed (view_of c.args.seat.now.board) (view_of c.add-replaced.new.seat)
     (view_of c.end.new.seat) draft.after.entries c.accept-before.new.self.snapshot.entries c.accept-before.new.self.authors
     c.args.self.now.board.table.shared.key.sessions c.basis-t.result u (marks_of home) _
-    c.end.ensures.left adds.2 grown (ap (λ h. marks_of h.home) c.add.ensures.held ∙ ap (marks_by home.stop) covered)
+    c.end.ensures.left adds.2 grown (ap (λ h. marks_of h.home) c.add-replaced.ensures.held ∙ ap (marks_by home.stop) covered)
     (omega (arith, at, ap (length {A = Entry}) grown, count, t))

@@ -20,7 +20,7 @@ use Rattle.board_rule.specs.Views.{codes}
 use Rattle.board_rule.specs.Calls.{view_of, board_of}
 use Rattle.board_seats.specs.Turning.{left_seen}
 use Rattle.fb_conn.specs.declared.home.Stop.{Stop}
-use Rattle.fb_conn.specs.Homes.{code_of, marks_of, named_stop, LogStands}
+use Rattle.fb_conn.specs.Homes.{code_of, marks_of, named_stop, GoesWithLog}
 use Rattle.fb_conn.specs.Seats.{state_of}
 use Rattle.fb_conn.specs.Turns.{committed, stopped_at}
 use Rattle.fb_conn.proofs.States.{stays_seat}
@@ -83,7 +83,7 @@ returns-in-Some-clause-fault g c =
     let turn = c.enter-held.ensures in
     let shown = c.in_ok-snapshot.ensures.shown in
     let h = home.core.snapshot.entries in let stop = c.in-Some.stop in let is : home.stop ≡ Some stop = c.in-Some.is in
-    let sound = subst (λ (o : Option Stop). LogStands g.L.Log.keeps g.L.Log.broke home.begun.value h home.log o home.torn) is turn.sound.0 in
+    let sound = subst (λ (o : Option Stop). GoesWithLog g.L.Log.keeps g.L.Log.broke home.begun.value h home.log o home.torn) is turn.sound.0 in
     let last = ap (λ (k : SnapshotModel). k.entries) shown.1 in
     is_stopped (board_of old.board) (board_of new.board) (view_of old.board) (view_of c.enter-held.new.seat)
     (view_of new.board) turn.entered.0 old.last.entries h

@@ -1,10 +1,7 @@
-use Rattle.std.proofs.Common.{◌∙◌, ap, sym, arith}
+use Rattle.std.proofs.Common.{◌∙◌, sym, arith}
 use Rattle.std.proofs.lemmas.Bool.{true≢false}
 use Rattle.std.specs.Option.{option_copied}
-use Rattle.fb_model.specs.Facts.{facts}
-use Rattle.fb_model.specs.Schema.{covers}
-use Rattle.fb_scan.specs.declared.walk.Scan.{Scan}
-use Rattle.fb_scan.proofs.Stepping.{held_in, shorter, none_left, all_beyond, found_one, passed_one}
+use Rattle.fb_scan.proofs.Stepping.{shorter, none_left, all_beyond, found_one, passed_one}
 use Rattle.fb_scan.proofs.walk.Scan.next.Goals as goal
 
 pub returns-then-is_past-clause-next : goal.returns-then-is_past-clause-next
@@ -15,15 +12,11 @@ returns-then-is_past-clause-next g c = λ db from end found has.
 
 pub returns-then-sees-clause-next : goal.returns-then-sees-clause-next
 returns-then-sees-clause-next g c = λ db from end found has.
-    let snapshot = c.args.self.now.db.now.snapshot in
     found_one db (λ v. g.S.Selector.selects v.filter) from end c.loop-datom.self found
     (c.loop-datom.invariant.goes db from end found has) c.in-Some.datom.now c.next.new.self c.in-Some.ensures
-    c.holds-held.result (option_copied c.following.result)
-    (held_in snapshot c.schema.ensures.stands c.covers-covers.result.now c.schema.result.now c.loop-datom.self.order
-    c.in-Some.datom.now.a c.holds-held.result c.covers-covers.ensures c.schema.ensures.schema c.holds-held.ensures
-    ∙ ap (λ (s : Scan g.row.S.Denot). covers (facts s.db.now.snapshot.entries) c.loop-datom.self.order c.in-Some.datom.now.a)
-    (sym c.loop-datom.invariant.same))
-    c.following.ensures (sym c.is_past.ensures ∙ c.if-is_past.false) (c.sees.ensures.0 c.if-sees.true)
+    c.holds-held.result (option_copied c.following-next.result)
+    (c.holds-held.ensures (c.loop-datom.invariant.goes db from end found has).knows)
+    c.following-next.ensures (sym c.is_past.ensures ∙ c.if-is_past.false) (c.sees.ensures.0 c.if-sees.true)
 
 pub returns-then-sees-clause-less : goal.returns-then-sees-clause-less
 returns-then-sees-clause-less g c =
@@ -35,19 +28,14 @@ loop-datom-smaller g c = shorter c.loop-datom.self.walk c.next.new.self c.in-Som
 
 pub loop-datom-preserved : goal.loop-datom-preserved
 loop-datom-preserved g c =
-    let snapshot = c.args.self.now.db.now.snapshot in
     let one = shorter c.loop-datom.self.walk c.next.new.self c.in-Some.datom.now c.in-Some.ensures in
     record {
-      same = ap (λ (s : Scan g.row.S.Denot). record s { walk = c.next.new.self }) c.loop-datom.invariant.same;
       goes = λ db from end found has.
           passed_one db (λ v. g.S.Selector.selects v.filter) from end c.loop-datom.self found
           (c.loop-datom.invariant.goes db from end found has) c.in-Some.datom.now c.next.new.self c.in-Some.ensures
-          c.holds-held.result (option_copied c.following.result)
-          (held_in snapshot c.schema.ensures.stands c.covers-covers.result.now c.schema.result.now c.loop-datom.self.order
-          c.in-Some.datom.now.a c.holds-held.result c.covers-covers.ensures c.schema.ensures.schema c.holds-held.ensures
-          ∙ ap (λ (s : Scan g.row.S.Denot). covers (facts s.db.now.snapshot.entries) c.loop-datom.self.order c.in-Some.datom.now.a)
-          (sym c.loop-datom.invariant.same))
-          c.following.ensures (λ tested. true≢false (sym (c.sees.ensures.1 tested) ∙ c.if-sees.false));
+          c.holds-held.result (option_copied c.following-next.result)
+          (c.holds-held.ensures (c.loop-datom.invariant.goes db from end found has).knows)
+          c.following-next.ensures (λ tested. true≢false (sym (c.sees.ensures.1 tested) ∙ c.if-sees.false));
       less = omega (arith, one, c.loop-datom.invariant.less);
     }
 

@@ -1,4 +1,4 @@
-use Rattle.std.proofs.Common.{◌≡◌, ◌≤◌, List, length}
+use Rattle.std.proofs.Common.{◌≤◌, List, length}
 use Rattle.fb_values.specs.declared.facts.Datom.{Datom}
 use Rattle.fb_values.specs.declared.indexes.Probe.{Probe}
 use Rattle.fb_db.specs.declared.db.Db.{Db}
@@ -8,7 +8,6 @@ use Rattle.fb_scan.proofs.walk.Scan.next.Given as goal
 
 abbrev pub invariant-loop-datom : goal.invariant-loop-datom
 invariant-loop-datom g l = record {
-  same : l.self ≡ record l.fn.self { walk = l.self.walk };
   goes : (db : Db g.row.S.Denot) (from : Probe) (end : End) (found : List Datom)
       → HasGiven db (g.S.Selector.selects db.filter) from end l.fn.self found
       → HasGiven db (g.S.Selector.selects db.filter) from end l.self found;

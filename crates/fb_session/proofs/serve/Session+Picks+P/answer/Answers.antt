@@ -1,7 +1,7 @@
 use Rattle.std.proofs.Common.{refl, ap, ◌∙◌, ◌++◌, [], ◌∷◌, map}
 use Rattle.std.proofs.lemmas.Result.{err_from_is_err_and}
 use Rattle.edn_form.specs.View.{form_of}
-use Rattle.fb_session.specs.Sessions.{terms_at}
+use Rattle.fb_session.specs.Terms.{terms_at}
 use Rattle.fb_session.proofs.Results.{fact_at_err, fact_at_ok}
 use Rattle.fb_session.proofs.Seeing.{goes_on-nowhere, answered_with_room, unanswered_with_room, answered_behind, place_of_view}
 use Rattle.fb_session.proofs.serve.Session+Picks+P.answer.Goals as goal

@@ -1,6 +1,7 @@
 use Rattle.std.proofs.Common.{refl, ◌∙◌, subst, map, arith, Bor}
 use Rattle.edn_form.specs.View.{form_of}
-use Rattle.fb_session.specs.Sessions.{terms_at, Replied, StopsAt}
+use Rattle.fb_session.specs.Sessions.{Replied, StopsAt}
+use Rattle.fb_session.specs.Terms.{terms_at}
 use Rattle.fb_session.proofs.TalkingOn.{talk-opened, talk-replied, talk-no_command, talk-stops}
 use Rattle.fb_session.proofs.serve.Session+Picks+P.answer_all.Goals as goal
 

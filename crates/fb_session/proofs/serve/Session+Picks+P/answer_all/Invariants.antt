@@ -1,6 +1,7 @@
 use Rattle.std.proofs.Common.{◌≡◌, ◌+◌, ◌-◌, ◌≤◌, length, map}
 use Rattle.talk_model.specs.Script.{most_commands}
-use Rattle.fb_session.specs.Sessions.{terms_at, TalkSoFar}
+use Rattle.fb_session.specs.Sessions.{TalkSoFar}
+use Rattle.fb_session.specs.Terms.{terms_at}
 use Rattle.fb_session.proofs.serve.Session+Picks+P.answer_all.Given as goal
 
 -- the talk over the forms so far

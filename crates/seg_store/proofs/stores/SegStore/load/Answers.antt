@@ -6,6 +6,13 @@ loaded_behind-requires g c =
     let all = c.in-Ok-found_in.ensures.found c.args.disk c.in-Ok.ensures.begins in
     (c.args.disk, all.0, all.1)
 
+pub returns-in-Err-clause-kept : goal.returns-in-Err-clause-kept
+returns-in-Err-clause-kept g c =
+    IfOk-weaker c.loaded_before.result _ _
+    (λ loaded is. λ file told. let here = is (g.D.Disk.bytes c.args.disk) c.in-Err.ensures.why_not in
+    (here.read, here.file file told, here.kept.roots))
+    c.loaded_before.ensures.loaded
+
 pub returns-in-Ok-found_in-clause-kept : goal.returns-in-Ok-found_in-clause-kept
 returns-in-Ok-found_in-clause-kept g c =
     let all = c.in-Ok-found_in.ensures.found c.args.disk c.in-Ok.ensures.begins in

@@ -1,0 +1,64 @@
+//! How long seats that wait for a turn stay awake.
+ghost use Rattle.std.specs.Prelude.{◌≡◌, true, false};
+ghost use Rattle.board_rule.specs.Patience.{rounds_on};
+
+/// On fewer processors, who looks takes away what the holder of the turn is waiting for.
+const ENOUGH: usize = 3;
+
+/// So many rounds of looks outlast a turn that syncs a file. To be woken takes a good part of such a turn.
+const MANY: u32 = 1_024;
+
+/// So many outlast most turns in memory, and are short beside what another thread may take of a processor.
+const FEW: u32 = 16;
+
+/// How long who waits for a turn stays awake: for so many rounds of looks, where it is next in line, or where it is second and
+/// both are to be awake. All others sleep.
+#[derive(Clone, Copy, Debug, PartialEq, Eq)]
+pub struct Patience {
+    rounds: u32,
+    both: bool,
+}
+
+impl Patience {
+    /// That of who is next in line, where so many threads can run at once.
+    pub fn on(processors: usize) -> Patience
+        ensures rounds { result.rounds ≡ rounds_on processors }
+        ensures one { result.both ≡ false }
+    {
+        let rounds = if processors < ENOUGH { FEW } else { MANY };
+        Patience {
+            rounds,
+            both: false,
+        }
+    }
+
+    /// The same, and who is second in line stays awake for as long.
+    pub fn of_both(self) -> Patience
+        ensures rounds { result.rounds ≡ self.rounds }
+        ensures both { result.both ≡ true }
+    {
+        Patience {
+            rounds: self.rounds,
+            both: true,
+        }
+    }
+
+    /// For how many rounds of looks.
+    pub fn rounds(self) -> u32
+        ensures { result ≡ self.rounds }
+    {
+        self.rounds
+    }
+
+    /// Whether who is second in line stays awake too.
+    pub fn is_of_both(self) -> bool
+        ensures { result ≡ self.both }
+    {
+        self.both
+    }
+
+    /// So many places behind the ticket served are awake.
+    pub(crate) fn places(self) -> u64 {
+        if self.both { 2 } else { 1 }
+    }
+}
