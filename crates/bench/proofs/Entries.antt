@@ -3,9 +3,14 @@ use Rattle.std.proofs.Common.{◌≡◌, ◌∙◌, ℕ, ◌+◌, ◌<◌, ◌�
 use Rattle.std.proofs.Common.{subst, arith}
 use Rattle.std.specs.Prelude.{Contains, IsTrue}
 use Rattle.std.specs.List.{All}
+use Rattle.std.specs.Ordering.{nat_cmp}
+use Rattle.std.specs.declared.cmp.Ordering.TheVariants.{Less, Equal}
+use Rattle.std.proofs.lemmas.Bool.Decides.{nat_tests}
 use Rattle.std.proofs.lemmas.List.Elements.{Contains-append_cases, Contains-get_or}
 use Rattle.fb_values.specs.declared.facts.Datom.{Datom}
 use Rattle.fb_values.specs.declared.indexes.Order.{Order}
+use Rattle.fb_values.specs.declared.indexes.Order.TheVariants.{Eavt}
+use Rattle.fb_values.specs.Orders.{key_cmp}
 use Rattle.fb_values.specs.OrderLaws.{IsAtOnePlace}
 use Rattle.fb_values.specs.Rising.{IsRising}
 use Rattle.fb_covers.specs.Coverage.{Coverage}
@@ -17,41 +22,70 @@ use Rattle.live_index.specs.Growth.{HasNoTwins, IsGrown, is_held}
 use Rattle.live_index.specs.Halves.{MayFollow}
 use Rattle.live_index.proofs.Members.{contains-cons, contains_none}
 use Rattle.live_index.proofs.Halves.{no_twins-rising}
-use Rattle.bench.specs.Entries.{IsOf, AreOf, IsEntry, IsBefore}
+use Rattle.seg_merge.proofs.Before.{rising_join}
+use Rattle.bench.specs.Entries.{IsOf, IsEntry, IsUpto, IsFrom, IsEntryUpto, IsBefore}
 
 abbrev pub AreOlder : ℕ → List Datom → Type 0
 AreOlder n ds = (d : Datom) → Contains ds d → (m : ℕ) × (m < n) × IsOf m d
 
 -- ---- one entry
 
-pub none_of : (n : ℕ) (ds : List Datom) → ds ≡ [] → AreOf n 0 ds
-none_of n ds is =
-    subst (AreOf n 0) (sym is) (record {
-      of = λ d there. absurd (contains_none d there);
-      below = λ d there. absurd (contains_none d there);
-      one = λ x y x_in y_in same. absurd (contains_none x x_in);
+pub none_yet : (n e a : ℕ) (ds : List Datom) → ds ≡ [] → IsEntryUpto n e a ds
+none_yet n e a ds is =
+    subst (IsEntryUpto n e a) (sym is) (record {
+      entry = record { of = λ d there. absurd (contains_none d there); rising = tt };
+      upto = λ d there. absurd (contains_none d there);
     })
 
-pub one_more : (n a : ℕ) (ds : List Datom) (d : Datom) → AreOf n a ds → IsOf n d → a ≤ d.a → AreOf n (d.a + 1) (ds ++ d ∷ [])
-one_more n a ds d all of up =
+-- what stands before a place stands before what stands behind it
+passes : (e a : ℕ) (x d : Datom) → IsUpto e a x → IsFrom e a d → IsUpto d.e d.a x
+passes e a x d upto from =
+    elim upto [
+      | inl less ↦ elim from [
+        | inl more ↦ inl (omega (arith, less, more))
+        | inr same ↦ inl (omega (arith, less, same.0))
+      ]
+      | inr at ↦ elim from [
+        | inl more ↦ inl (omega (arith, at.0, more))
+        | inr same ↦ inr (at.0 ∙ same.0, omega (arith, at.1, same.1))
+      ]
+    ]
+
+stands_before : (x d : Datom) → IsUpto d.e d.a x → key_cmp Eavt x d ≡ Less
+stands_before x d upto =
+    elim upto [
+      | inl less ↦ let first = less_now x.e d.e less in rw first refl
+      | inr at ↦ let first = equal_now x.e d.e at.0 in let second = less_now x.a d.a at.1 in rw (first, second) refl
+    ]
+  where
+    less_now : (m n : ℕ) → m < n → nat_cmp m n ≡ Less
+    less_now m n less = grind (arith, nat_tests)
+
+    equal_now : (m n : ℕ) → m ≡ n → nat_cmp m n ≡ Equal
+    equal_now m n same = grind (arith, nat_tests)
+
+pub one_more : (n e a : ℕ) (ds : List Datom) (d : Datom) → IsEntryUpto n e a ds → IsOf n d → IsFrom e a d
+    → IsEntryUpto n d.e (d.a + 1) (ds ++ d ∷ [])
+one_more n e a ds d all of from =
     record {
-      of = λ x there. elim (cases x there) [ inl older ↦ all.of x older | inr same ↦ subst (IsOf n) same of ];
-      below = λ x there. elim (cases x there) [
-        | inl older ↦ omega (arith, all.below x older)
-        | inr same ↦ let e : d.a ≡ x.a = ap (λ (z : Datom). z.a) same in omega (arith, e)
-      ];
-      one = λ x y x_in y_in same. elim (cases x x_in) [
-        | inl older_x ↦ elim (cases y y_in) [
-          | inl older_y ↦ all.one x y older_x older_y same
-          | inr is_y ↦ let e : d.a ≡ y.a = ap (λ (z : Datom). z.a) is_y in absurd (omega (arith, all.below x older_x, e, same))
+      entry = record {
+        of = λ x there. elim (cases x there) [ inl older ↦ all.entry.of x older | inr same ↦ subst (IsOf n) same of ];
+        rising = rising_join Eavt ds (d ∷ []) all.entry.rising (tt, tt) (λ x y x_in y_in. before x y x_in (contains-cons d [] y y_in));
+      };
+      upto = λ x there. elim (cases x there) [
+        | inl older ↦ elim (passes e a x d (all.upto x older) from) [
+          | inl less ↦ inl less
+          | inr at ↦ inr (at.0, omega (arith, at.1))
         ]
-        | inr is_x ↦ elim (cases y y_in) [
-          | inl older_y ↦ let e : d.a ≡ x.a = ap (λ (z : Datom). z.a) is_x in absurd (omega (arith, all.below y older_y, e, same))
-          | inr is_y ↦ sym is_x ∙ is_y
-        ]
+        | inr same ↦ inr (ap (λ (z : Datom). z.e) (sym same), omega (arith, ap (λ (z : Datom). z.a) same))
       ];
     }
   where
+    before : (x y : Datom) → Contains ds x → (d ≡ y) ⊎ Contains [] y → key_cmp Eavt x y ≡ Less
+    before x y x_in (inl same) =
+        subst (λ (z : Datom). key_cmp Eavt x z ≡ Less) same (stands_before x d (passes e a x d (all.upto x x_in) from))
+    before x y x_in (inr more) = absurd (contains_none y more)
+
     cases : (x : Datom) → Contains (ds ++ d ∷ []) x → Contains ds x ⊎ (d ≡ x)
     cases x there = elim (Contains-append_cases ds (d ∷ []) x there) [
       | inl older ↦ inl older
@@ -73,10 +107,10 @@ module _ (order : Order) (n : ℕ) (old ds : List Datom) (small : n < 4294967296
   no_mates : (x d : Datom) → Contains old x → Contains ds d → is_mate d x ≡ true → ⊥
   no_mates x d x_in d_in mate =
       let was = older x x_in in
-      apart was.0 n x d was.1 small was.2 (entry.1.of d d_in) (is_of-true d.e d.a d.v x mate).e_is
+      apart was.0 n x d was.1 small was.2 (entry.of d d_in) (is_of-true d.e d.a d.v x mate).e_is
 
   other_t : (x y : Datom) → Contains old x → Contains ds y → x.t ≡ y.t → ⊥
-  other_t x y x_in y_in same = let was = older x x_in in absurd (omega (arith, was.1, was.2.t, (entry.1.of y y_in).t, same))
+  other_t x y x_in y_in same = let was = older x x_in in absurd (omega (arith, was.1, was.2.t, (entry.of y y_in).t, same))
 
   pub single : HasNoTwins (old ++ ds)
   single x y x_in y_in at =
@@ -87,7 +121,7 @@ module _ (order : Order) (n : ℕ) (old ds : List Datom) (small : n < 4294967296
         ]
         | inr new_x ↦ elim (Contains-append_cases old ds y y_in) [
           | inl was_y ↦ absurd (other_t y x was_y new_x (sym at.t))
-          | inr new_y ↦ entry.1.one x y new_x new_y at.a
+          | inr new_y ↦ no_twins-rising Eavt ds entry.rising x y new_x new_y at
         ]
       ]
 
@@ -95,7 +129,9 @@ module _ (order : Order) (n : ℕ) (old ds : List Datom) (small : n < 4294967296
   follows = record {
     single = single;
     later = λ x d x_in d_in mate. absurd (no_mates x d x_in d_in mate);
-    one = λ x d x_in d_in mate. entry.1.one x d x_in d_in (is_of-true d.e d.a d.v x mate).a_is;
+    one = λ x d x_in d_in mate. no_twins-rising Eavt ds entry.rising x d x_in d_in
+        (let same = is_of-true d.e d.a d.v x mate in
+        record { e = same.e_is; a = same.a_is; v = same.v_is; t = (entry.of x x_in).t ∙ sym (entry.of d d_in).t });
     fresh = λ x d x_in d_in mate. absurd (no_mates x d (standing_member old x x_in) d_in mate);
   }
 
@@ -110,7 +146,7 @@ grown order c n old ds new older entry g =
           | inl one ↦ let m = older d one in (m.0, omega (arith, m.1), m.2)
           | inr filled ↦ absurd (contains_none d filled.1)
         ]
-        | inr now ↦ (n, omega arith, entry.1.of d now)
+        | inr now ↦ (n, omega arith, entry.of d now)
       ];
     }
 

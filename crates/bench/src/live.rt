@@ -1,8 +1,9 @@
 //! The live index: `bench live COUNT ROUNDS [install]` fills an index with COUNT datoms, all orders together, and then adds 250
 //! entries to it that many times, each time to the same filled index: entries of three datoms, or, with `install`, entries of
 //! five datoms that install a unique attribute each.
-ghost use Rattle.std.specs.Prelude.{◌≡◌, ◌+◌, ◌<◌, ◌≤◌, ◌^◌, ℕ, IfOk};
-ghost use Rattle.bench.specs.Entries.{IsOf, AreOf, IsEntry, LiveIsBefore, transaction_entity, user_entity};
+ghost use Rattle.std.specs.Prelude.{◌≡◌, ◌+◌, ◌<◌, ◌^◌, ℕ, IfOk};
+ghost use Rattle.bench.specs.Entries.{IsOf, IsEntry, IsEntryUpto, IsFrom, LiveIsBefore};
+ghost use Rattle.bench.specs.Entries.{transaction_entity, user_entity};
 
 use crate::common::number;
 use anyhow::Result;
@@ -229,21 +230,21 @@ fn facts(alloc: Global, n: u32) -> Result<Vec<Datom>, Memory>
     pushed(datoms, of_user(n, NUMBER, number))
 }
 
-/// The n-th entry's datoms: a new unique attribute, and a transaction's instant.
+/// The n-th entry's datoms: a transaction's instant, and a new unique attribute.
 fn attribute(alloc: Global, n: u32) -> Result<Vec<Datom>, Memory>
     ensures { IfOk result (λ v. IsEntry n v.items) }
 {
     let ident = Value::Keyword(name(alloc, n)?);
-    let datoms = pushed(Vec::new(alloc), of_user(n, IDENT, ident))?;
+    let datoms = pushed(Vec::new(alloc), instant(n))?;
+    let datoms = pushed(datoms, of_user(n, IDENT, ident))?;
     let datoms = pushed(datoms, of_user(n, VALUE_TYPE, Value::Ref(STRING)))?;
     let datoms = pushed(datoms, of_user(n, CARDINALITY, Value::Ref(ONE)))?;
-    let datoms = pushed(datoms, of_user(n, UNIQUE, Value::Ref(IDENTITY)))?;
-    pushed(datoms, instant(n))
+    pushed(datoms, of_user(n, UNIQUE, Value::Ref(IDENTITY)))
 }
 
 fn pushed(mut list: Vec<Datom>, datom: Datom) -> Result<Vec<Datom>, Memory>
-    ensures { IfOk result (λ v. (n a : ℕ) → AreOf n a list.items → IsOf n datom → a ≤ datom.a
-        → AreOf n (datom.a + 1) v.items) }
+    ensures { IfOk result (λ v. (n e a : ℕ) → IsEntryUpto n e a list.items → IsOf n datom
+        → IsFrom e a datom → IsEntryUpto n datom.e (datom.a + 1) v.items) }
 {
     list.push(datom)?;
     Ok(list)
@@ -251,6 +252,7 @@ fn pushed(mut list: Vec<Datom>, datom: Datom) -> Result<Vec<Datom>, Memory>
 
 fn instant(n: u32) -> Datom
     ensures of { IsOf n result }
+    ensures e { result.e ≡ transaction_entity n }
     ensures a { result.a ≡ TX_INSTANT }
 {
     Datom {
@@ -264,6 +266,7 @@ fn instant(n: u32) -> Datom
 
 fn of_user(n: u32, a: u64, v: Value) -> Datom
     ensures of { IsOf n result }
+    ensures e { result.e ≡ user_entity n }
     ensures a { result.a ≡ a }
 {
     Datom {

@@ -2,7 +2,7 @@
 ghost use Rattle.std.specs.Prelude.{◌≡◌, ◌+◌, ◌<◌, ◌++◌, false, length, drop, slice_index_or, IfOk};
 ghost use Rattle.std.specs.Option.{option_copied, option_map_or};
 ghost use Rattle.fb_model.specs.Facts.{is_of};
-ghost use Rattle.live_index.specs.Listed.{nothing};
+ghost use Rattle.live_runs.specs.Members.{nothing};
 ghost use Rattle.live_index.specs.Splits.{stands_at};
 ghost use Rattle.fact_trees.specs.Facts.{first_or, facts_before, all_stand};
 

@@ -10,12 +10,12 @@ use Rattle.board_turn.specs.Turn.{left}
 use Rattle.board_seats.specs.Sight.{Holds}
 use Rattle.board_seats.specs.Turning.{gained}
 use Rattle.fb_conn.specs.declared.conn.Conn.{Conn}
-use Rattle.fb_conn.specs.declared.home.Home.{Home}
+use Rattle.fb_conn.specs.declared.home.Kept.{Kept}
 use Rattle.fb_conn.specs.declared.seats.Seat.{Seat}
 use Rattle.fb_conn.specs.Homes.{code_of}
 use Rattle.fb_conn.specs.Turns.{HasTurn, committed}
 
-pub holds : {L R : Type 0} (conn : Conn L R) (seat : Seat) (home : Home L R) → HasTurn conn seat home
+pub holds : {L R : Type 0} (conn : Conn L R) (seat : Seat) (home : Kept L) → HasTurn conn seat home
     → Holds code_of (view_of seat.board) home.core.snapshot.entries (authors_of (view_of seat.board))
 holds conn seat home has =
     let y = sym has.turn in

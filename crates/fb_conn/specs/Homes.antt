@@ -11,7 +11,7 @@ use Rattle.fb_core.specs.Cores.{entry_of}
 use Rattle.board_rule.specs.declared.view.Stop.{Stop as NamedStop}
 use Rattle.board_rule.specs.declared.view.Marks.{Marks}
 use Rattle.fb_conn.specs.declared.home.Stop.{Stop}
-use Rattle.fb_conn.specs.declared.home.Home.{Home}
+use Rattle.fb_conn.specs.declared.home.Kept.{Kept}
 
 -- an entry as views have it
 abbrev pub code_of : Entry → Gv
@@ -47,12 +47,12 @@ abbrev pub IsTornBy : List ℕ → Option Stop → Option Draft → Type 0
 IsTornBy authors stopped torn =
     IfSome torn (λ draft. IfSome stopped (λ stop. draft.authors ≡ authors ++ stop.author ∷ []))
 
-module _ {L R : Type 0} where
-  abbrev pub marks_of : Home L R → Marks
+module _ {L : Type 0} where
+  abbrev pub marks_of : Kept L → Marks
   marks_of home = marks_by home.stop home.core.snapshot.covered
 
   abbrev pub IsSoundHome : (L → List Entry → L → Type 0) → (L → List Entry → Entry → L → Type 0)
-      → Home L R → Type 0
+      → Kept L → Type 0
   IsSoundHome keeps broke home =
       GoesWithLog keeps broke home.begun.value home.core.snapshot.entries home.log home.stop home.torn
       × IsTornBy home.core.authors home.stop home.torn

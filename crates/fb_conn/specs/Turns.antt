@@ -19,7 +19,7 @@ use Rattle.board_rule.specs.Views.{codes, story}
 use Rattle.board_rule.specs.Calls.{view_of, board_of}
 use Rattle.board_turn.specs.Turn.{left}
 use Rattle.fb_conn.specs.declared.conn.Conn.{Conn}
-use Rattle.fb_conn.specs.declared.home.Home.{Home}
+use Rattle.fb_conn.specs.declared.home.Kept.{Kept}
 use Rattle.fb_conn.specs.declared.letters.Letter.{Letter}
 use Rattle.fb_conn.specs.declared.seats.Seat.{Seat}
 use Rattle.fb_conn.specs.declared.recording.Ready.{Ready}
@@ -28,7 +28,7 @@ use Rattle.fb_conn.specs.Seats.{table_of, begun_of}
 
 -- the seat has the turn of the connection's board,
 -- with slot 0's value, and has changed nothing that the board knows of
-pub record HasTurn {L R : Type 0} (conn : Conn L R) (seat : Seat) (home : Home L R) : Type 0 where
+pub record HasTurn {L R : Type 0} (conn : Conn L R) (seat : Seat) (home : Kept L) : Type 0 where
   pub on : board_of seat.board ≡ table_of conn
   pub turn : (view_of seat.board).turn
       ≡ Some

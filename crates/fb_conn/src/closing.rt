@@ -11,7 +11,7 @@ ghost use Rattle.fb_conn.specs.Seats.{table_of, begun_of, IsAtRest, IsWorkerOf, 
 ghost use Rattle.fb_conn.specs.Closing.{IsTakenIn};
 
 use crate::conn::Conn;
-use crate::home::{Home, Stop};
+use crate::home::{Kept, Stop};
 use crate::seats::Seat;
 use board_seats::gather;
 use fb_core::{Core, Draft};
@@ -61,14 +61,14 @@ impl<L: Log> Conn<L> {
         gather(&board, &mut first, seats);
         let home = board.close(first);
         // This call brings into the proof that the core represents its history.
-        let _basis = home.core.basis();
-        let Home {
+        let _latest = home.snapshot();
+        let Kept {
             core,
             log,
             stop,
             torn,
             begun: _,
-        } = home;
+        } = Box::into_inner(home.kept);
         Closed {
             core,
             log,

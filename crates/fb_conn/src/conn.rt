@@ -145,14 +145,7 @@ impl<L: Log> Conn<L> {
             room,
             worker: last,
         } = shares;
-        let begun = std::snapshot::Snapshot::of(&log);
-        let home = Home {
-            core,
-            log,
-            stop: None,
-            torn: None,
-            begun,
-        };
+        let home = Home::new(alloc, core, log)?;
         match open(alloc, home, Mails::of(mails), patience) {
             Ok(
                 Opened {

@@ -48,10 +48,10 @@ impl<L: Log> Conn<L> {
         let mut held = enter(&self.board, rt, &mut seat.board);
         // This call brings into the proof that the snapshot represents its history.
         let _basis = ahead.basis();
-        match held.home.core.rebase_on(ahead) {
+        match held.home.rebase_on(ahead) {
             Ok(rebased) => {
                 // It is dropped after the turn.
-                let _before = held.home.core.adopt(rebased);
+                let _before = held.home.kept.core.adopt(rebased);
                 end(&self.board, &mut seat.board, held);
                 Ok(())
             }

@@ -43,7 +43,7 @@ impl<L: Log> Conn<L> {
             (A.says (basis draft.now.after.entries) draft.now.tempids.items reply.new) }
     {
         reply.receipt(draft.after().basis(), draft.tempids())?;
-        let before = Letter::of(home.core.snapshot())?;
+        let before = Letter::of(home.snapshot())?;
         let after = Letter::of(draft.after())?;
         let mails = letters_of(self.alloc, draft.after(), self.board.sessions())?;
         let made = L::record(self.alloc, draft.entry())?;
@@ -87,7 +87,9 @@ impl<L: Log> Conn<L> {
             after,
             mails,
         } = ready;
-        match held.home.log.add(&made) {
+        // This call brings into the proof that the core represents its history.
+        let _latest = held.home.snapshot();
+        match held.home.add(&made) {
             Ok(()) => Ok(self.commit(seat, held, draft, after, mails)),
             Err(_) => Err(self.stop(seat, held, draft, before)),
         }
@@ -120,7 +122,7 @@ impl<L: Log> Conn<L> {
         let instant = draft.entry().instant;
         let tempids = draft.take_tempids();
         // Both are dropped after the turn.
-        let _before = held.home.core.accept(draft);
+        let _before = held.home.kept.core.accept(draft);
         let _replaced = add(&self.board, &mut seat.board, &mut held, mails);
         end(&self.board, &mut seat.board, held);
         seat.last = one;
@@ -156,11 +158,8 @@ impl<L: Log> Conn<L> {
     {
         let Letter { one, two } = before;
         let at = draft.after().basis();
-        held.home.stop = Some(Stop {
-            at,
-            author: seat.board.number(),
-        });
-        held.home.torn = Some(draft);
+        let author = seat.board.number();
+        held.home.stop_at(Stop { at, author }, draft);
         end_seen(&self.board, &mut seat.board, held);
         seat.last = one;
         TxFault::LogFault { at, snapshot: two }

@@ -99,8 +99,8 @@ impl<L: Log> Conn<L> {
         refusals_do_not_depend_on_the_clock();
         let held = enter(&self.board, rt, &mut seat.board);
         // This call brings into the proof that the core represents its history.
-        let _basis = held.home.core.basis();
-        if let Some(stop) = held.home.stop {
+        let _latest = held.home.snapshot();
+        if let Some(stop) = held.home.stop() {
             let snapshot = self.show_latest(seat, held)?;
             return Err(TxFault::Stopped {
                 at: stop.at,
@@ -108,7 +108,7 @@ impl<L: Log> Conn<L> {
             });
         }
         let author = seat.board.number();
-        match held.home.core.decide(asked, clock.now(), author, guard) {
+        match held.home.decide(asked, clock.now(), author, guard) {
             Ok(draft) => match self.prepare(&held.home, &draft, author, reply) {
                 Ok(ready) => self.append(seat, held, draft, ready),
                 Err(_) => {
@@ -145,7 +145,7 @@ impl<L: Log> Conn<L> {
             × (view_of seat.new.board ≡ left (view_of seat.old.board) (marks_of held.home))) }
         ensures stands { CoreStands held.home.core }
     {
-        match Letter::of(held.home.core.snapshot()) {
+        match Letter::of(held.home.snapshot()) {
             Ok(Letter { one, two }) => {
                 end_seen(&self.board, &mut seat.board, held);
                 seat.last = one;

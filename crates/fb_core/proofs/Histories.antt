@@ -11,6 +11,7 @@ use Rattle.fb_model.specs.Lawful.{IsLawful, IsLawfulAfter}
 use Rattle.fb_model.proofs.OneMoreEntry.{basis-push, upto-append}
 use Rattle.fb_model.proofs.LawfulHistories.{IsLawful-length}
 use Rattle.fb_model.proofs.Times.{next_t, upto-basis}
+use Rattle.fb_view.proofs.Beginnings.{begins_within}
 use Rattle.fb_core.specs.Cores.{last_of}
 
 pub last_of-push : (h : List Entry) (entry : Entry) → last_of (h ++ entry ∷ []) ≡ entry
@@ -34,13 +35,6 @@ last_of-is h entry read = fold_last first_entry h entry read
 
 pub next_basis : (h : List Entry) (entry : Entry) → IsLawfulAfter h entry → basis (h ++ entry ∷ []) ≡ basis h + 1
 next_basis h entry next = basis-push h entry ∙ next_t h entry next
-
--- a history has more entries than the t of any of its beginnings
-pub begins_within : (h older : List Entry) → IsLawful older → upto h (basis older) ≡ older → basis older < length h
-begins_within h older lawful begins =
-    let counted = IsLawful-length older lawful in
-    let taken : min (basis older + 1) (length h) ≡ basis older + 1 = sym (length-take (basis older + 1) h) ∙ ap length begins ∙ counted in
-    omega (arith, taken)
 
 pub beginning_stays : (h older : List Entry) (entry : Entry) → IsLawful older → upto h (basis older) ≡ older
     → upto (h ++ entry ∷ []) (basis older) ≡ older

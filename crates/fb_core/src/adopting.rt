@@ -3,7 +3,6 @@ ghost use Rattle.std.specs.Prelude.{◌≡◌, IfOk};
 ghost use Rattle.fb_model.specs.History.{basis, upto};
 ghost use Rattle.view_model.specs.Stands.{RootStands};
 ghost use Rattle.seg_tree.specs.Indexes.{trees_of};
-ghost use Rattle.fb_view.specs.SnapshotModel.{Stands};
 
 use crate::shared::Core;
 use fb_memory::Memory;
@@ -42,7 +41,7 @@ impl Core {
         ensures roots { IfOk result (λ rebased. rebased.snapshot.roots ≡ ahead.now.roots) }
         ensures covered { IfOk result (λ rebased. rebased.snapshot.covered ≡ ahead.now.covered) }
     {
-        let snapshot = caught_up(ahead, self.snapshot())?;
+        let snapshot = ahead.caught_up(self.snapshot())?;
         Ok(Rebased { snapshot })
     }
 
@@ -55,24 +54,4 @@ impl Core {
     {
         mem::replace(&mut self.parts.snapshot, rebased.snapshot)
     }
-}
-
-/// A database value over the trees of `ahead`, which is of a beginning of its history. Only what came since then is added.
-pub fn caught_up(ahead: &Snapshot, latest: &Snapshot) -> Result<Snapshot, Memory>
-    requires begins { upto latest.now.entries (basis ahead.now.entries) ≡ ahead.now.entries }
-    ensures entries { IfOk result (λ snapshot. snapshot.entries ≡ latest.now.entries) }
-    ensures roots { IfOk result (λ snapshot. snapshot.roots ≡ ahead.now.roots) }
-    ensures covered { IfOk result (λ snapshot. snapshot.covered ≡ ahead.now.covered) }
-    ensures stands { IfOk result (λ snapshot. Stands snapshot) }
-{
-    // This call brings into the proof that the snapshot represents its history.
-    let _basis = latest.basis();
-    let entries = latest.entries();
-    let len = entries.len();
-    let from = ahead.basis() + 1;
-    let mut snapshot = ahead.share()?;
-    for t in from..len {
-        snapshot = snapshot.with_entry(entries.at(t).copy()?)?;
-    }
-    Ok(snapshot)
 }

@@ -8,7 +8,7 @@ mod laws;
 mod shared;
 
 pub use accepting::Draft;
-pub use adopting::{Rebased, caught_up};
+pub use adopting::Rebased;
 pub use laws::{
     a_beginning_stays_one, accepting_keeps_histories_lawful, accepting_makes_a_commit,
     adopting_changes_no_view, adopting_ends_a_merge, opening_makes_a_world,

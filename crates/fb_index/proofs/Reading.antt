@@ -8,9 +8,7 @@ use Rattle.fb_values.specs.declared.indexes.Probe.{Probe}
 use Rattle.fb_values.specs.Lists.{Lists}
 use Rattle.fb_values.specs.Rising.{IsRising}
 use Rattle.fb_search.specs.Places.{is_below, place_of}
-use Rattle.fb_model.specs.Facts.{standing}
 use Rattle.live_index.specs.Halves.{IsPair, merged, outlives, withdrawn}
-use Rattle.live_index.proofs.Halves.{pair_of, both_of}
 use Rattle.live_index.proofs.Walking.{drop_next, drop_past, rising-drop}
 use Rattle.fb_index.specs.declared.sides.Extent.{Extent}
 use Rattle.fb_index.specs.declared.sides.Extent.TheVariants.{Said, Held}
@@ -48,21 +46,6 @@ older_from Said live p ds rising = from_place p ds rising
 older_from Held live p ds rising =
     ap (filter (outlives (withdrawn live.eavt))) (from_place p ds rising)
     ∙ filter-filter (outlives (withdrawn live.eavt)) (λ d. not (is_below p d)) ds
-
--- ---- of a live list
-
--- both halves from where a probe leads on
-pub live_from : (p : Probe) (ds : List Datom) (holding past : ℕ) → IsRising p.order ds → holding ≡ place_of p (standing ds)
-    → past ≡ place_of p (withdrawn ds)
-    → merged p.order (drop holding (standing ds)) (drop past (withdrawn ds)) ≡ from_probe p ds
-live_from p ds holding past rising holding_is past_is =
-    let pair = pair_of p.order ds rising in
-    ap (λ n. merged p.order (drop n (standing ds)) (drop past (withdrawn ds))) holding_is
-    ∙ ap (λ n. merged p.order (drop (place_of p (standing ds)) (standing ds)) (drop n (withdrawn ds))) past_is
-    ∙ ap (λ l. merged p.order l (drop (place_of p (withdrawn ds)) (withdrawn ds))) (from_place p (standing ds) pair.older_rises)
-    ∙ ap (merged p.order (from_probe p (standing ds))) (from_place p (withdrawn ds) pair.live_rises)
-    ∙ merged-filter p.order (λ d. not (is_below p d)) (standing ds) (withdrawn ds) pair
-    ∙ ap (from_probe p) (both_of p.order ds rising)
 
 -- ---- as far as a probe leads
 

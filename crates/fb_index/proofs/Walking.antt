@@ -11,7 +11,7 @@ use Rattle.fb_values.specs.declared.indexes.Probe.{Probe}
 use Rattle.fb_values.specs.Lists.{Lists, list_in}
 use Rattle.fb_values.specs.Rising.{IsRising}
 use Rattle.fb_search.specs.Places.{is_below, place_of}
-use Rattle.live_blocks.specs.Walks.{IsFirstOf}
+use Rattle.live_runs.specs.Walks.{IsFirstOf}
 use Rattle.live_index.specs.Halves.{IsPair, merged}
 use Rattle.live_index.specs.Walks.{before_rest, comes_first}
 use Rattle.live_index.proofs.Members.{contains_tail}

@@ -6,7 +6,7 @@ use Rattle.fb_values.specs.declared.indexes.Order.{Order}
 use Rattle.fb_values.specs.Lists.{Lists, list_in}
 use Rattle.fb_values.specs.Rising.{IsRising}
 use Rattle.fb_model.specs.Facts.{standing}
-use Rattle.live_index.specs.Halves.{IsPair, IsLater, merged, outlives, withdrawn}
+use Rattle.live_index.specs.Halves.{IsPair, merged, outlives, withdrawn}
 use Rattle.seg_tree.specs.Nodes.{DirectoryNode, tree_datoms}
 use Rattle.seg_tree.specs.Ranks.{rank}
 use Rattle.seg_tree.specs.declared.tree.Place.{Place}
@@ -38,10 +38,8 @@ abbrev pub older_ahead : Extent → List DirectoryNode → Lists → Place → L
 older_ahead extent tree live place =
     older_read extent live (drop (rank tree place) (tree_datoms tree))
 
--- the lists can be read as one,
--- and what the live ones have of a triple is later than what the tree has
+-- the lists can be read as one
 pub record AreBeside (extent : Extent) (order : Order) (older : List Datom) (live : Lists)
     : Type 0 where
   pub rises : IsRising order older
   pub pair : IsPair order (older_read extent live older) (live_read extent (list_in live order))
-  pub later : IsLater older live.eavt

@@ -3,16 +3,14 @@ ghost use Rattle.std.specs.Prelude.{◌≡◌, ◌++◌, ◌<◌, IfOk};
 ghost use Rattle.std.specs.Option.{option_copied};
 ghost use Rattle.fb_values.specs.Lists.{list_in};
 ghost use Rattle.fb_values.specs.Rising.{IsRising};
-ghost use Rattle.fb_search.specs.Places.{place_of};
 ghost use Rattle.fb_model.specs.Facts.{standing};
-ghost use Rattle.live_index.specs.Halves.{withdrawn};
 ghost use Rattle.seg_tree.specs.Nodes.{tree_datoms};
 ghost use Rattle.fb_index.specs.Ranges.{is_led, is_past, led_to, from_probe};
 
 use fb_memory::Memory;
 use fb_search::Steps;
 use fb_values::{Datom, Probe, cmp_probe};
-use live_index::{Cursor, Live, Walk};
+use live_index::{Live, Walk};
 use seg_tree::Tree;
 use std::cmp::Ordering;
 use std::marker::Brand;
@@ -72,47 +70,34 @@ pub(crate) fn said_walk<'a>(live: &'a Live, probe: &Probe) -> Walk<'a>
     ensures walk { result ≡ from_probe probe.now (list_in live.now probe.now.order) }
     ensures rising { IsRising probe.now.order (list_in live.now probe.now.order) }
 {
-    live.walk(
-        probe.order,
-        Cursor {
-            holding: holding_place(live, probe),
-            past: past_place::<Brand>(live, probe, Blank::new(1)),
-        },
-    )
+    seek_said::<Brand>(live, probe, Blank::new(1))
+}
+
+/// A seek whose comparisons a ledger of its own counts.
+fn seek_said<'a, L: Ledger>(live: &'a Live, probe: &Probe, blank: Blank) -> Walk<'a>
+    requires name { blank.name ≡ L.name }
+    requires parts { blank.parts ≡ L.parts }
+    requires some { 0 < blank.parts }
+    ensures walk { result ≡ from_probe probe.now (list_in live.now probe.now.order) }
+    ensures rising { IsRising probe.now.order (list_in live.now probe.now.order) }
+{
+    live.seek(probe, &mut Steps::<L>::of(blank))
 }
 
 /// The walk over those of them that hold.
 pub(crate) fn held_walk<'a>(live: &'a Live, probe: &Probe) -> Walk<'a>
     ensures { result ≡ from_probe probe.now (standing (list_in live.now probe.now.order)) }
 {
-    live.walk_holding(probe.order, holding_place(live, probe))
+    seek_held::<Brand>(live, probe, Blank::new(1))
 }
 
-/// Where those begin that hold.
-fn holding_place(live: &Live, probe: &Probe) -> u64
-    ensures place { result ≡ place_of probe.now (standing (list_in live.now probe.now.order)) }
-    ensures rising { IsRising probe.now.order (list_in live.now probe.now.order) }
-{
-    seek_holding::<Brand>(live, probe, Blank::new(1))
-}
-
-/// A seek whose comparisons a ledger of its own counts.
-fn seek_holding<L: Ledger>(live: &Live, probe: &Probe, blank: Blank) -> u64
+fn seek_held<'a, L: Ledger>(live: &'a Live, probe: &Probe, blank: Blank) -> Walk<'a>
     requires name { blank.name ≡ L.name }
     requires parts { blank.parts ≡ L.parts }
     requires some { 0 < blank.parts }
-    ensures place { result ≡ place_of probe.now (standing (list_in live.now probe.now.order)) }
-    ensures rising { IsRising probe.now.order (list_in live.now probe.now.order) }
+    ensures { result ≡ from_probe probe.now (standing (list_in live.now probe.now.order)) }
 {
-    live.holding().seek(probe, &mut Steps::<L>::of(blank))
-}
-
-/// Where those begin that do not hold.
-fn past_place<L: Ledger>(live: &Live, probe: &Probe, blank: Blank) -> u64
-    requires name { blank.name ≡ L.name }
-    requires parts { blank.parts ≡ L.parts }
-    requires some { 0 < blank.parts }
-    ensures { result ≡ place_of probe.now (withdrawn (list_in live.now probe.now.order)) }
-{
-    live.past().seek(probe, &mut Steps::<L>::of(blank))
+    // So the list rises.
+    let _ = live.holding();
+    live.seek_holding(probe, &mut Steps::<L>::of(blank))
 }

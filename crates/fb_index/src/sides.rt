@@ -1,10 +1,10 @@
 //! The lists of an order, a tree's and the live ones, read as one rising list.
-ghost use Rattle.std.specs.Prelude.{◌≡◌, find, Contains, IfOk, IfSome};
+ghost use Rattle.std.specs.Prelude.{◌≡◌, find, IfOk, IfSome};
 ghost use Rattle.std.specs.Option.{option_map, option_copied};
 ghost use Rattle.fb_values.specs.declared.facts.Datom.{Datom};
 ghost use Rattle.fb_values.specs.Lists.{list_in};
 ghost use Rattle.fb_model.specs.Facts.{value_eq};
-ghost use Rattle.live_blocks.specs.Walks.{IsFirstOf};
+ghost use Rattle.live_runs.specs.Walks.{IsFirstOf};
 ghost use Rattle.seg_tree.specs.Nodes.{tree_datoms};
 ghost use Rattle.fb_index.specs.Ranges.{from_probe, within, led_to};
 ghost use Rattle.fb_index.specs.Sides.{live_read, is_read, older_ahead, whole, AreBeside};
@@ -113,14 +113,11 @@ impl<'a> Sides<'a> {
 
     /// Whether the tree's datom is read.
     fn reads(&self, d: &Datom) -> bool
-        requires beside { AreBeside self.now.extent self.now.order (tree_datoms self.now.tree.now)
-            self.now.live.now }
-        requires there { Contains (tree_datoms self.now.tree.now) d.now }
         ensures { result ≡ is_read self.now.extent self.now.live.now d.now }
     {
         match self.extent {
             Extent::Said => true,
-            Extent::Held => !self.live.past().has_later(d),
+            Extent::Held => !self.live.past().has_mate(d),
         }
     }
 }

@@ -4,7 +4,7 @@ ghost use Rattle.std.specs.List.{slice_get};
 ghost use Rattle.std.specs.Option.{option_copied};
 ghost use Rattle.fb_values.specs.declared.indexes.Order.{Order};
 ghost use Rattle.fb_values.specs.Rising.{IsRising};
-ghost use Rattle.live_blocks.specs.Walks.{IsFirstOf};
+ghost use Rattle.live_runs.specs.Walks.{IsFirstOf};
 ghost use Rattle.live_index.specs.Walks.{comes_first};
 ghost use Rattle.seg_tree.specs.Nodes.{tree_datoms};
 ghost use Rattle.fb_index.specs.Ranges.{from_probe, within};

@@ -10,7 +10,7 @@ use Rattle.disk_model.specs.Journal.{opened, record_of, Holds}
 use Rattle.disk_model.proofs.Calls.{length-written, written-within, torn-same}
 use Rattle.disk_model.proofs.Journals.{length-file, holds-same}
 use Rattle.disk_model.proofs.Moments.{started, goes_on, joined}
-use Rattle.fb_journal.specs.Laying.{LiesAt, IsLaid, record_if, opened_beside, TornOpening}
+use Rattle.fb_journal.specs.Laying.{LiesAt, IsLaid, record_if, with_zeros, opened_beside, TornOpening}
 
 -- ---- bytes that lie in a file
 
@@ -72,14 +72,18 @@ told-staged (Some before) known' at piece same = λ file told.
     omega (arith, length-written at piece before, ap length whole)
 
 -- where a gate was opened, what was laid lies behind the next
-pub told-laid : (known known' : Option (List ℕ)) (gate : ℕ) (piece next : List ℕ)
-    → known' ≡ option_map (opened_beside gate piece next) known → IfKnown known' (LiesAt (gate + 1 + length piece) next)
-told-laid None known' gate piece next same = λ file told. absurd (cc)
-told-laid (Some before) known' gate piece next same = λ file told.
-    let whole : opened_beside gate piece next before ≡ file = cc in
-    let behind : List ℕ = written (gate + 1) piece before in
+pub told-laid : (known known' : Option (List ℕ)) (gate : ℕ) (piece zeros next : List ℕ)
+    → known' ≡ option_map (opened_beside gate piece zeros next) known → IfKnown known' (LiesAt (gate + 1 + length piece) next)
+told-laid None known' gate piece zeros next same = λ file told. absurd (cc)
+told-laid (Some before) known' gate piece zeros next same = λ file told.
+    let whole : opened_beside gate piece zeros next before ≡ file = cc in
+    let behind : List ℕ = with_zeros gate piece zeros before in
     let long : gate + 1 + length piece ≤ length (written gate (1 ∷ []) behind) =
-    omega (arith, length-written gate (1 ∷ []) behind, length-written (gate + 1) piece before) in
+    omega (
+      arith,
+      length-written gate (1 ∷ []) behind,
+      length-written (gate + 1 + length piece) zeros (written (gate + 1) piece before),
+    ) in
     subst (LiesAt (gate + 1 + length piece) next) whole
     (lies-written (gate + 1 + length piece) next (written gate (1 ∷ []) behind) long)
 
@@ -108,11 +112,23 @@ holds-past mark records file holds at n past image torn =
     ∙ ap (λ (l : List ℕ). take end l) torn.before
     ∙ take-take end at file past)
 
--- one write, and another
-pub run-both : {D : Type 0} (moment : D → ℕ) (since : D → ℕ → List ℕ → Type 0) (old mid new : D) (P Q : List ℕ → Type 0)
-    → LeavesOnly moment since old mid P → LeavesOnly moment since mid new Q → LeavesOnly moment since old new (λ image. P image ⊎ Q image)
-run-both moment since old mid new P Q first second =
-    joined moment since old mid new P Q (λ image. P image ⊎ Q image) first second (λ image left. inl left) (λ image left. inr left)
+-- a write, one behind it, and what opens the gate
+pub run-three : {D : Type 0} (moment : D → ℕ) (since : D → ℕ → List ℕ → Type 0) (old one two new : D) (P Q R : List ℕ → Type 0)
+    → LeavesOnly moment since old one P → LeavesOnly moment since one two Q → LeavesOnly moment since two new R
+    → LeavesOnly moment since old new (λ image. P image ⊎ (Q image ⊎ R image))
+run-three moment since old one two new P Q R first second third =
+    joined moment since old one new P (λ image. Q image ⊎ R image) (λ image. P image ⊎ (Q image ⊎ R image)) first
+    (joined moment since one two new Q R (λ image. Q image ⊎ R image) second third (λ image left. inl left) (λ image left. inr left))
+    (λ image left. inl left)
+    (λ image left. inr left)
+
+-- a write, and one behind it
+pub run-both : {D : Type 0} (moment : D → ℕ) (since : D → ℕ → List ℕ → Type 0) (old one two : D) (P Q R : List ℕ → Type 0)
+    → LeavesOnly moment since old one P → LeavesOnly moment since one two Q
+    → LeavesOnly moment since old two (λ image. P image ⊎ (Q image ⊎ R image))
+run-both moment since old one two P Q R first second =
+    joined moment since old one two P Q (λ image. P image ⊎ (Q image ⊎ R image)) first second (λ image left. inl left)
+    (λ image left. inr (inl left))
 
 -- a gate, and what is written behind it under the same sync
 module _ {D : Type 0} (images : D → List ℕ → Type 0) (moment : D → ℕ) (since : D → ℕ → List ℕ → Type 0)

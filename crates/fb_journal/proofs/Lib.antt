@@ -9,3 +9,4 @@ pub mod Passing
 pub mod Showing
 pub mod Starting
 pub mod Walking
+pub mod Zeroing

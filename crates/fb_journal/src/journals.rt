@@ -8,6 +8,7 @@ ghost use Rattle.fb_journal.specs.Laying.{IsLaid, record_if};
 
 use crate::marks::MARK;
 use crate::stores::{add_record, empty};
+use crate::zeros::end_behind;
 use crate::{Framed, Mark};
 use fb_disk::Disk;
 use thiserror::Error;
@@ -34,6 +35,8 @@ pub struct Journal<D: Disk> {
     pub(crate) stopped: Option<u64>,
     /// What is on the disk behind the closed gate already: the record that was likely to come next. It counts for nothing.
     pub(crate) laid: Option<Framed>,
+    /// Where the file ends, if zeros are laid ahead of its records.
+    pub(crate) end: Option<u64>,
     ghost room: { gate + 1 < 2 ^ 64 },
     ghost few: { records ≤ gate },
     ghost lies: { IfSome laid
@@ -78,7 +81,8 @@ impl<D: Disk> Journal<D> {
     }
 
     /// Adds a record, and lays the one that is likely to come next behind the gate that is closed then, under the same sync.
-    /// If that one comes, adding it takes one sync in place of two; until then it counts for nothing. It takes no memory.
+    /// If that one comes, adding it takes one sync in place of two; until then it counts for nothing. Where a long log ends,
+    /// zeros are laid ahead of the records that come later. It takes no memory.
     pub fn append_beside(
         &mut self,
         framed: &Framed,
@@ -116,16 +120,31 @@ impl<D: Disk> Journal<D> {
             return Err(JournalFault::Stopped { at });
         }
         let lies = self.has_laid(framed);
-        let next_bytes = bytes_in(&next);
-        if add_record(&mut self.disk, self.gate, framed.bytes(), lies, next_bytes).is_err() {
+        let piece = framed.bytes();
+        let beside = bytes_in(&next);
+        let upto = self.zeros_upto(piece, beside);
+        if add_record(&mut self.disk, self.gate, piece, lies, upto, beside).is_err() {
             self.laid = None;
             self.stopped = Some(self.records);
             return Err(JournalFault::Disk);
         }
-        self.gate += framed.bytes().len() as u64;
+        self.gate += piece.len() as u64;
         self.records += 1;
         self.laid = next;
+        self.end = upto.or(self.end);
         Ok(())
+    }
+
+    /// Up to where zeros are laid behind a record, if the file ends before it, or before what is laid beside it.
+    fn zeros_upto(&self, piece: &[u8], next: &[u8]) -> Option<u64> {
+        let end = self.end?;
+        let behind = (self.gate + 1).checked_add(piece.len() as u64)?;
+        let needed = behind.checked_add(next.len() as u64)?;
+        if end < needed {
+            end_behind(needed)
+        } else {
+            None
+        }
     }
 
     /// Whether this record lies behind the gate, byte for byte.
@@ -164,6 +183,7 @@ impl<D: Disk> Journal<D> {
             return Err(JournalFault::Stopped { at });
         }
         self.laid = None;
+        self.end = None;
         if empty(&mut self.disk, self.mark).is_err() {
             self.stopped = Some(0);
             return Err(JournalFault::Disk);

@@ -12,6 +12,7 @@ mod reads;
 mod starts;
 mod stores;
 mod windows;
+mod zeros;
 
 pub use frames::{Framed, frame, frame_in};
 pub use journals::{Journal, JournalFault};

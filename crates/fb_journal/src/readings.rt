@@ -10,6 +10,7 @@ use crate::gates::{Ahead, look_ahead};
 use crate::marks::MARK;
 use crate::openings::begin;
 use crate::windows::Window;
+use crate::zeros::end_of;
 use crate::{Journal, Mark, StartFault, StartStop};
 use fb_disk::Disk;
 use std::alloc::Global;
@@ -268,6 +269,7 @@ impl<D: Disk> Reading<D> {
             gate: self.gate,
             stopped: None,
             laid: None,
+            end: end_of(self.mark, self.window.len),
         }
     }
 

@@ -78,6 +78,7 @@ impl<D: Disk> Journal<D> {
                 gate: MARK as u64,
                 stopped: None,
                 laid: None,
+                end: None,
             }),
             Err(_) => Err(StartStop {
                 fault: StartFault::Disk,

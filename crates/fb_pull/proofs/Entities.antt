@@ -1,13 +1,17 @@
 -- What is at hand of an entity, and what of it is under an attribute.
+use denote.Ref.{Bor}
+use Rattle.std.proofs.Common.{Vec, Global}
 use Rattle.std.proofs.Common.{◌≡◌, ◌∙◌, ℕ, suc, ◌+◌, ◌≤◌, ◌<◌, Bool, true, false, cond, ◌&&◌, List, [], ◌∷◌, ◌++◌, length, take, drop}
 use Rattle.std.proofs.Common.{◌-◌, ◌≢◌, get_or, min, refl, sym, ap, subst, Option, Some, None, eqb, arith, append_assoc}
-use Rattle.std.specs.Prelude.{filter, unwrap_or}
+use Rattle.std.specs.Prelude.{filter, unwrap_or, map, option_map}
 use Rattle.std.specs.Ordering.{is_eq, nat_cmp, ordering_then}
 use Rattle.std.specs.declared.cmp.Ordering.{Ordering}
 use Rattle.std.specs.declared.cmp.Ordering.TheVariants.{Less, Equal, Greater}
 use Rattle.std.proofs.lemmas.Bool.Decides.{nat_tests}
-use Rattle.std.proofs.lemmas.List.{length-take, take_all, drop_more}
+use Rattle.std.specs.List.{slice_get}
+use Rattle.std.proofs.lemmas.List.{length-take, take_all, drop_more, drop_all, get_or-map, length-map}
 use Rattle.fb_values.specs.declared.facts.Datom.{Datom}
+use Rattle.fb_values.specs.declared.facts.Value.{Value}
 use Rattle.fb_values.specs.declared.indexes.Order.TheVariants.{Eavt}
 use Rattle.fb_values.specs.declared.indexes.Probe.{Probe}
 use Rattle.fb_values.specs.Orders.{probe_cmp}
@@ -22,7 +26,7 @@ use Rattle.pull_model.specs.Found as model
 use Rattle.fb_pull.specs.Finding.{upto}
 use Rattle.fb_pull.specs.declared.near.Near.{Near}
 use Rattle.fb_pull.specs.declared.near.Near.TheVariants.{Few}
-use Rattle.fb_pull.specs.Near.{IsNear}
+use Rattle.fb_pull.specs.Near.{IsNear, lent}
 use Rattle.fb_pull.specs.Views.{Sees}
 use Rattle.fb_pull.proofs.Scans.{number}
 
@@ -58,6 +62,28 @@ few_are_all n ds all is few =
     let count : length ds ≡ min n (length all) = ap length is ∙ length-take n all in
     is ∙ take_all n all (omega (arith, count, few))
 
+-- ---- datoms that are lent
+
+pub lent_length : (ds : List (Bor Datom)) → length (lent ds) ≡ length ds
+lent_length ds = length-map ds (λ (d : Bor Datom). d.now)
+
+pub lent_below : (ds : List (Bor Datom)) (i : ℕ) → i < length ds → i < length (lent ds)
+lent_below ds i below = subst (λ (n : ℕ). i < n) (sym (lent_length ds)) below
+
+pub lent_past : (ds : List (Bor Datom)) (i : ℕ) → length ds ≤ i → length (lent ds) ≤ i
+lent_past ds i past = subst (λ (n : ℕ). n ≤ i) (sym (lent_length ds)) past
+
+pub lent_at : (ds : List (Bor Datom)) (i : ℕ) (d : Bor Datom) → i < length ds → d ≡ get_or ds i d → d.now ≡ get_or (lent ds) i d.now
+lent_at ds i d below is = ap (λ (x : Bor Datom). x.now) is ∙ sym (get_or-map (λ (x : Bor Datom). x.now) ds i d d.now below)
+
+pub lent_values : (ds : List (Bor Datom)) → map (λ (d : Bor Datom). d.now.v) ds ≡ map (λ (d : Datom). d.v) (lent ds)
+lent_values [] = refl
+lent_values (d ∷ ds) = ap (λ (l : List Value). d.now.v ∷ l) (lent_values ds)
+
+pub lent_entities : (ds : List (Bor Datom)) → map (λ (d : Bor Datom). d.now.e) ds ≡ map (λ (d : Datom). d.e) (lent ds)
+lent_entities [] = refl
+lent_entities (d ∷ ds) = ap (λ (l : List ℕ). d.now.e ∷ l) (lent_entities ds)
+
 -- ---- what is under an attribute
 
 abbrev pub has : ℕ → Datom → Bool
@@ -86,12 +112,12 @@ pub upto_all : {X : Type 0} (most : Option ℕ) (p : X → Bool) (xs : List X) (
 upto_all (Some m) p xs n is = refl
 upto_all None p xs n is = take_all n (filter p xs) (omega (arith, is, no_more p xs))
 
-module _ {S : Type 0} (db : Db S) (Selects : Datom → Type 0) (e : ℕ) (near : Near) (ds : List Datom) (is : near ≡ Few ds)
+module _ {S : Type 0} (db : Db S) (Selects : Datom → Type 0) (e : ℕ) (near : Near) (ds : Vec (Bor Datom) Global) (is : near ≡ Few ds)
     (given : IsNear db Selects e near) (facts : model.Db) (sees : Sees db Selects facts) where
-  pub at_hand : ds ≡ filter (λ d. eqb d.e e) facts.seen
+  pub at_hand : lent ds.items ≡ filter (λ d. eqb d.e e) facts.seen
   at_hand = subst (IsNear db Selects e) is given facts sees
 
-  pub under_attribute : (a : ℕ) → filter (has a) ds ≡ filter (is_about e a) facts.seen
+  pub under_attribute : (a : ℕ) → filter (has a) (lent ds.items) ≡ filter (is_about e a) facts.seen
   under_attribute a = ap (filter (has a)) at_hand ∙ sym (under_entity e a facts.seen)
 
 -- ---- the first under an attribute, one datom after another
@@ -137,3 +163,37 @@ module _ {Y : Type 0} (F : List Datom → List Y) (a : ℕ) (ds : List Datom) (i
   none_left none left_is now_is goes =
       ap (λ (l : List Y). l ++ F (take new_left behind)) now_is ∙ ap (λ (n : ℕ). was ++ F (take n behind)) (left_is ∙ none)
       ∙ subst (λ (n : ℕ). was ++ F (take n (filter (has a) (drop i ds))) ≡ whole) none goes
+
+-- ---- the first one under an attribute
+
+pub head_map : {X Y : Type 0} (f : X → Y) (xs : List X) → option_map f (slice_get xs 0) ≡ slice_get (map f xs) 0
+head_map f [] = refl
+head_map f (x ∷ xs) = refl
+
+module _ (a : ℕ) (ds : List Datom) (i : ℕ) where
+  abbrev pub IsAhead : Type 0
+  IsAhead = filter (has a) (drop i ds) ≡ filter (has a) ds
+
+  pub first_nowhere : length ds ≤ i → IsAhead → ◌≡◌ {A = Option Datom} None (slice_get (filter (has a) ds) 0)
+  first_nowhere past is =
+      ap (λ (l : List Datom). slice_get (filter (has a) l) 0) (sym (drop_all i ds past)) ∙ ap (λ (l : List Datom). slice_get l 0) is
+
+  module _ (d : Datom) (below : i < length ds) (at : d ≡ get_or ds i d) (is : IsAhead) where
+    stands : filter (has a) (d ∷ drop (i + 1) ds) ≡ filter (has a) ds
+    stands = ap (filter (has a)) (sym (drop_more ds i d below ∙ ap (λ (x : Datom). x ∷ drop (i + 1) ds) (sym at))) ∙ is
+
+    pub first_here : d.a ≡ a → Some d ≡ slice_get (filter (has a) ds) 0
+    first_here same =
+        subst (λ b. slice_get (cond b (d ∷ filter (has a) (drop (i + 1) ds)) (filter (has a) (drop (i + 1) ds))) 0
+        ≡ slice_get (filter (has a) ds) 0) (passes same) (ap (λ (l : List Datom). slice_get l 0) stands)
+      where
+        passes : d.a ≡ a → has a d ≡ true
+        passes is = grind (arith, nat_tests, is)
+
+    pub first_later : d.a ≢ a → filter (has a) (drop (i + 1) ds) ≡ filter (has a) ds
+    first_later other =
+        subst (λ b. cond b (d ∷ filter (has a) (drop (i + 1) ds)) (filter (has a) (drop (i + 1) ds)) ≡ filter (has a) ds) (fails other)
+        stands
+      where
+        fails : d.a ≢ a → has a d ≡ false
+        fails not = grind (arith, nat_tests, not)

@@ -26,6 +26,9 @@ id_from e (Some name) None count uniqueness component indexed attribute is = abs
 id_from e (Some name) (Some kind) None uniqueness component indexed attribute is = absurd (cc)
 id_from e (Some name) (Some kind) (Some count) uniqueness component indexed attribute is = cc
 
+pub own_id : (schema : List Datom) (e : ℕ) (attribute : Attribute) → attribute_of schema e ≡ Some attribute → attribute.id ≡ e
+own_id schema e attribute is = id_from e _ _ _ _ _ _ attribute is
+
 pub named_is : (schema : List Datom) (name : List ℕ) (attribute : Attribute) → attribute_named schema name ≡ Some attribute
     → attribute_of schema attribute.id ≡ Some attribute
 named_is schema name attribute is = go (named schema name) is

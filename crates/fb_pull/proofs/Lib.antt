@@ -6,3 +6,5 @@ pub mod Runs
 pub mod Limits
 pub mod Known
 pub mod Making
+mod OwnNames
+mod Named

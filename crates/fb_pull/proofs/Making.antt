@@ -2,7 +2,7 @@
 use Rattle.std.proofs.Common.{◌≡◌, ◌∙◌, ◌≢◌, ℕ, suc, ◌+◌, ◌-◌, ◌<◌, ◌≤◌, inl, inr, min, max, Bool, true, false, cond, not}
 use Rattle.std.proofs.Common.{List, [], ◌∷◌, ◌++◌, length, take, drop, map, fold, get_or, refl, sym, ap, subst, Option, Some, None, arith}
 use Rattle.std.specs.Prelude.{Result, Ok, Err, option_map, filter}
-use Rattle.std.specs.List.{cons_option}
+use Rattle.std.specs.List.{cons_option, slice_get}
 use Rattle.std.specs.Result.{IsErr, IsErrAnd}
 use Rattle.std.proofs.Common.{Vec, Global}
 use Rattle.edn_form.specs.declared.form.Edn.{Edn}
@@ -13,7 +13,7 @@ use Rattle.std.proofs.lemmas.List.Elements.{filter-append, filter_map-append}
 use Rattle.edn_model.specs.Form.{Form}
 use Rattle.edn_form.specs.View.{form_of, forms_of, pairs_of}
 use Rattle.edn_values.specs.Values.{form_of_value}
-use Rattle.fb_values.specs.declared.facts.Value.{Value}
+use Rattle.fb_values.specs.declared.facts.Value.{Value as TheValue}
 use Rattle.fb_values.specs.declared.facts.Value.TheVariants.{Ref}
 use Rattle.pull_model.specs.Patterns as patterns
 use Rattle.pull_model.specs.Patterns.{Pattern, Options, Item, Below, own, attribute, usual, no_options, key_of, own_name}
@@ -36,7 +36,7 @@ use Rattle.fb_pull.specs.declared.made.Pulled.{Pulled}
 use Rattle.fb_pull.specs.declared.made.Several.{Several}
 use Rattle.fb_pull.specs.declared.made.Inside.{Inside}
 use Rattle.fb_pull.specs.declared.made.Limits.{Limits}
-use Rattle.fb_pull.specs.declared.found.Found.TheVariants.{Values, Entities}
+use Rattle.fb_pull.specs.declared.found.Found.TheVariants.{Value, Values, Entities}
 use Rattle.fb_pull.specs.Finding.{Finds}
 use Rattle.fb_pull.specs.Made.{form_in}
 use Rattle.fb_pull.specs.declared.stops.Stop.{Stop}
@@ -195,15 +195,15 @@ one_stops f ns limits i n all below is before Memory none = tt
 
 -- ---- the value of an attribute
 
-plain_forms : (vs : List Value) → forms_made (map (λ v. plain (form_of_value v)) vs) ≡ map form_of_value vs
+plain_forms : (vs : List TheValue) → forms_made (map (λ v. plain (form_of_value v)) vs) ≡ map form_of_value vs
 plain_forms [] = refl
 plain_forms (v ∷ vs) = ap (λ (l : List Form). form_of_value v ∷ l) (plain_forms vs)
 
-plain_maps : (vs : List Value) → maps_made (map (λ v. plain (form_of_value v)) vs) ≡ 0
+plain_maps : (vs : List TheValue) → maps_made (map (λ v. plain (form_of_value v)) vs) ≡ 0
 plain_maps [] = refl
 plain_maps (v ∷ vs) = omega (arith, plain_maps vs)
 
-plain_depth : (vs : List Value) → depth_made (map (λ v. plain (form_of_value v)) vs) ≡ 0
+plain_depth : (vs : List TheValue) → depth_made (map (λ v. plain (form_of_value v)) vs) ≡ 0
 plain_depth [] = refl
 plain_depth (v ∷ vs) = omega (arith, plain_depth vs)
 
@@ -211,20 +211,38 @@ module _ (facts : model.Db) (pattern : Pattern) (place : ℕ) (path : List ℕ) 
   abbrev pub trees : Pattern → List ℕ → ℕ → Made
   trees = tree limits.depth facts
 
-  pub values_told : (there : model.Found) (several : Bool) (forms : Vec Edn Global) (t : Pulled)
-      → Finds there options limits.maps (Values several forms) → option_map form_of t.form ≡ collected several (forms_of forms.items)
-      → t.maps ≡ 0
-      → IsMadeAs (value_of trees pattern place path options below there) limits t
-  values_told model.absent several forms t finds form maps = absurd finds
-  values_told (model.entities many parts ns) several forms t finds form maps = absurd finds
-  values_told (model.values many vs) several forms t finds form maps = record {
-    form =
-        form ∙ ap (λ b. collected b (forms_of forms.items)) finds.0
-        ∙ ap (collected many) (finds.1 ∙ sym (plain_forms (limited (limit_for many options) vs)));
+  plain_told : (many : Bool) (vs : List TheValue) (t : Pulled)
+      → option_map form_of t.form ≡ collected many (map form_of_value (limited (limit_for many options) vs)) → t.maps ≡ 0
+      → IsMadeAs (value_of trees pattern place path options below (model.values many vs)) limits t
+  plain_told many vs t form maps = record {
+    form = form ∙ ap (collected many) (sym (plain_forms (limited (limit_for many options) vs)));
     maps = maps ∙ sym (plain_maps (limited (limit_for many options) vs));
     few = omega (arith, plain_maps (limited (limit_for many options) vs));
     shallow = omega (arith, plain_depth (limited (limit_for many options) vs));
   }
+
+  -- the first value is the one that is given
+  one_given : (vs : List TheValue) → option_map form_of_value (slice_get vs 0) ≡ collected false
+      (map form_of_value (limited (limit_for false options) vs))
+  one_given [] = refl
+  one_given (v ∷ vs) = refl
+
+  pub value_told : (there : model.Found) (form : Option Edn) → Finds there options limits.maps (Value form)
+      → IsMadeAs (value_of trees pattern place path options below there) limits (record { form = form; maps = 0 })
+  value_told model.absent form finds = absurd finds
+  value_told (model.entities many parts ns) form finds = absurd finds
+  value_told (model.values many vs) form finds =
+      plain_told many vs (record { form = form; maps = 0 })
+      (finds.1 ∙ one_given vs ∙ ap (λ b. collected b (map form_of_value (limited (limit_for b options) vs))) (sym finds.0)) refl
+
+  pub values_told : (there : model.Found) (forms : Vec Edn Global) (t : Pulled)
+      → Finds there options limits.maps (Values forms) → option_map form_of t.form ≡ collected true (forms_of forms.items)
+      → t.maps ≡ 0
+      → IsMadeAs (value_of trees pattern place path options below there) limits t
+  values_told model.absent forms t finds form maps = absurd finds
+  values_told (model.entities many parts ns) forms t finds form maps = absurd finds
+  values_told (model.values many vs) forms t finds form maps =
+      plain_told many vs t (form ∙ ap (λ b. collected b (forms_of forms.items)) (sym finds.0) ∙ ap (collected many) finds.1) maps
 
   abbrev tells : Bool → ℕ → Made
   tells parts = pull_below trees pattern place path parts below

@@ -1,5 +1,6 @@
 pub mod Views
 pub mod Near
+pub mod Paths
 pub mod Attributes
 pub mod Keys
 pub mod Below

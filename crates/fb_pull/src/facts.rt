@@ -1,14 +1,16 @@
 //! What a pull reads of an entity: its values under an attribute, and the entities that refer to it by one. Each is one search of an
 //! index, unless the entity's datoms are at hand, and no more is read than is asked for.
-ghost use Rattle.std.specs.Prelude.{◌≡◌, List, [], ◌∷◌, ◌++◌, map, take, filter, filter_map, nat_eq, true, IfOk};
-ghost use Rattle.edn_form.specs.View.{forms_of};
+ghost use Rattle.std.specs.Prelude.{◌≡◌, List, [], ◌∷◌, ◌++◌, map, take, filter, filter_map, nat_eq, true, IfOk, Some, None};
+ghost use Rattle.std.specs.List.{slice_get};
+ghost use Rattle.std.specs.Option.{option_copied, option_map};
+ghost use Rattle.edn_form.specs.View.{form_of, forms_of};
 ghost use Rattle.edn_values.specs.Values.{form_of_value};
-ghost use Rattle.fb_values.specs.declared.indexes.Order.TheVariants.{Vaet};
+ghost use Rattle.fb_values.specs.declared.indexes.Order.TheVariants.{Eavt, Vaet};
 ghost use Rattle.fb_model.specs.Facts.{facts as facts_of, values_of};
 ghost use Rattle.fb_model.specs.Schema.{is_about, is_ref, entity_in, covers};
 ghost use Rattle.pull_model.specs.Found as model;
 ghost use Rattle.fb_pull.specs.Finding.{upto};
-ghost use Rattle.fb_pull.specs.Near.{IsNear};
+ghost use Rattle.fb_pull.specs.Near.{IsNear, lent};
 ghost use Rattle.fb_pull.specs.Views.{Sees};
 
 use crate::near::Near;
@@ -17,15 +19,46 @@ use edn_values::as_edn;
 use fb_db::Db;
 use fb_memory::Memory;
 use fb_preds::Selector;
-use fb_scan::{datoms, first};
-use fb_values::{Datom, Datoms, Order, Probe, Value};
+use fb_scan::first_row;
+use fb_scan::lent::{datoms, first};
+use fb_values::{Datom, Order, Probe, Value};
 use std::alloc::Global;
+
+/// The form of the entity's first value under the attribute.
+pub fn value<S: Selector>(
+    db: &Db<S>,
+    near: &Near<'_>,
+    e: u64,
+    a: u64,
+) -> Result<Option<Edn>, Memory>
+    requires { IsNear db.now (S.selects db.now.filter) e near.now }
+    ensures { (facts : model.Db) → Sees db.now (S.selects db.now.filter) facts
+        → IfOk result (λ form. option_map form_of form
+        ≡ option_map form_of_value (slice_get (values_of facts.seen e a) 0)) }
+{
+    match first_under(db, near, e, a) {
+        Some(d) => Ok(Some(as_edn(&d.v)?)),
+        None => Ok(None),
+    }
+}
+
+/// The entity's first datom under the attribute.
+fn first_under<'a, S: Selector>(db: &'a Db<S>, near: &Near<'a>, e: u64, a: u64) -> Option<&'a Datom>
+    requires { IsNear db.now (S.selects db.now.filter) e near.now }
+    ensures { (facts : model.Db) → Sees db.now (S.selects db.now.filter) facts
+        → option_copied result ≡ slice_get (filter (is_about e a) facts.seen) 0 }
+{
+    match near {
+        Near::Few(datoms) => first_among(datoms, a),
+        Near::Nothing => first_row(db, &probe_under(e, a)),
+    }
+}
 
 /// The forms of the entity's values under the attribute, at most so many where a number is given.
 pub fn values<S: Selector>(
     alloc: Global,
     db: &Db<S>,
-    near: &Near,
+    near: &Near<'_>,
     e: u64,
     a: u64,
     most: Option<usize>,
@@ -38,11 +71,11 @@ pub fn values<S: Selector>(
     match near {
         Near::Few(datoms) => {
             let most = most.unwrap_or(datoms.len());
-            forms_among(alloc, datoms.as_slice(), a, most)
+            forms_among(alloc, datoms, a, most)
         }
         Near::Nothing => {
             let datoms = datoms_under(alloc, db, e, a, most)?;
-            forms(alloc, datoms.as_slice())
+            forms(alloc, &datoms)
         }
     }
 }
@@ -51,7 +84,7 @@ pub fn values<S: Selector>(
 pub fn referred<S: Selector>(
     alloc: Global,
     db: &Db<S>,
-    near: &Near,
+    near: &Near<'_>,
     e: u64,
     a: u64,
     most: usize,
@@ -64,10 +97,10 @@ pub fn referred<S: Selector>(
 {
     let _ = db.snapshot.entries();
     match near {
-        Near::Few(datoms) => entities_among(alloc, datoms.as_slice(), a, most),
+        Near::Few(datoms) => entities_among(alloc, datoms, a, most),
         Near::Nothing => {
             let datoms = datoms_under(alloc, db, e, a, Some(most))?;
-            entities(alloc, datoms.as_slice())
+            entities(alloc, &datoms)
         }
     }
 }
@@ -92,36 +125,55 @@ pub fn referring<S: Selector>(
         t: None,
     };
     let datoms = first(alloc, db, &probe, most)?;
-    subjects(alloc, datoms.as_slice())
+    subjects(alloc, &datoms)
 }
 
 /// The entity's datoms under the attribute, at most so many where a number is given.
-fn datoms_under<S: Selector>(
+fn datoms_under<'a, S: Selector>(
     alloc: Global,
-    db: &Db<S>,
+    db: &'a Db<S>,
     e: u64,
     a: u64,
     most: Option<usize>,
-) -> Result<Datoms, Memory>
+) -> Result<Vec<&'a Datom>, Memory>
     ensures { (facts : model.Db) → Sees db.now (S.selects db.now.filter) facts
-        → IfOk result (λ ds. ds ≡ upto most (filter (is_about e a) facts.seen)) }
+        → IfOk result (λ ds. lent ds.items ≡ upto most (filter (is_about e a) facts.seen)) }
 {
-    let probe = Probe {
-        order: Order::Eavt,
-        e: Some(e),
-        a: Some(a),
-        v: None,
-        t: None,
-    };
+    let probe = probe_under(e, a);
     match most {
         Some(most) => first(alloc, db, &probe, most),
         None => datoms(alloc, db, &probe),
     }
 }
 
-fn forms(alloc: Global, datoms: &[Datom]) -> Result<Vec<Edn>, Memory>
+fn probe_under(e: u64, a: u64) -> Probe
+    ensures { result ≡ record { order = Eavt; e = Some e; a = Some a; v = None; t = None } }
+{
+    Probe {
+        order: Order::Eavt,
+        e: Some(e),
+        a: Some(a),
+        v: None,
+        t: None,
+    }
+}
+
+/// The first of the datoms that is under the attribute.
+fn first_among<'a>(datoms: &[&'a Datom], a: u64) -> Option<&'a Datom>
+    ensures { option_copied result
+        ≡ slice_get (filter (λ d. nat_eq d.a a) (lent datoms.now)) 0 }
+{
+    for d in datoms {
+        if d.a == a {
+            return Some(*d);
+        }
+    }
+    None
+}
+
+fn forms(alloc: Global, datoms: &[&Datom]) -> Result<Vec<Edn>, Memory>
     ensures { IfOk result
-        (λ list. forms_of list.items ≡ map form_of_value (map (λ d. d.v) datoms.now)) }
+        (λ list. forms_of list.items ≡ map form_of_value (map (λ d. d.now.v) datoms.now)) }
 {
     let mut list = Vec::new(alloc);
     for d in datoms {
@@ -131,9 +183,9 @@ fn forms(alloc: Global, datoms: &[Datom]) -> Result<Vec<Edn>, Memory>
 }
 
 /// The entities among the values.
-fn entities(alloc: Global, datoms: &[Datom]) -> Result<Vec<u64>, Memory>
+fn entities(alloc: Global, datoms: &[&Datom]) -> Result<Vec<u64>, Memory>
     ensures { IfOk result
-        (λ list. list.items ≡ filter_map entity_in (map (λ d. d.v) datoms.now)) }
+        (λ list. list.items ≡ filter_map entity_in (map (λ d. d.now.v) datoms.now)) }
 {
     let mut list = Vec::new(alloc);
     for d in datoms {
@@ -145,9 +197,9 @@ fn entities(alloc: Global, datoms: &[Datom]) -> Result<Vec<u64>, Memory>
 }
 
 /// The forms of the values under the attribute among the datoms, at most so many.
-fn forms_among(alloc: Global, datoms: &[Datom], a: u64, most: usize) -> Result<Vec<Edn>, Memory>
+fn forms_among(alloc: Global, datoms: &[&Datom], a: u64, most: usize) -> Result<Vec<Edn>, Memory>
     ensures { IfOk result (λ list. forms_of list.items ≡ map form_of_value
-        (map (λ d. d.v) (take most (filter (λ d. nat_eq d.a a) datoms.now)))) }
+        (map (λ d. d.v) (take most (filter (λ d. nat_eq d.a a) (lent datoms.now))))) }
 {
     let mut list = Vec::new(alloc);
     let mut left = most;
@@ -161,9 +213,9 @@ fn forms_among(alloc: Global, datoms: &[Datom], a: u64, most: usize) -> Result<V
 }
 
 /// The entities among the values under the attribute, of the first datoms.
-fn entities_among(alloc: Global, datoms: &[Datom], a: u64, most: usize) -> Result<Vec<u64>, Memory>
+fn entities_among(alloc: Global, datoms: &[&Datom], a: u64, most: usize) -> Result<Vec<u64>, Memory>
     ensures { IfOk result (λ list. list.items ≡ filter_map entity_in
-        (map (λ d. d.v) (take most (filter (λ d. nat_eq d.a a) datoms.now)))) }
+        (map (λ d. d.v) (take most (filter (λ d. nat_eq d.a a) (lent datoms.now))))) }
 {
     let mut list = Vec::new(alloc);
     let mut left = most;
@@ -188,8 +240,8 @@ fn push_entity(list: &mut Vec<u64>, v: &Value) -> Result<(), Memory>
 }
 
 /// The entities of which the datoms are.
-fn subjects(alloc: Global, datoms: &[Datom]) -> Result<Vec<u64>, Memory>
-    ensures { IfOk result (λ list. list.items ≡ map (λ d. d.e) datoms.now) }
+fn subjects(alloc: Global, datoms: &[&Datom]) -> Result<Vec<u64>, Memory>
+    ensures { IfOk result (λ list. list.items ≡ map (λ d. d.now.e) datoms.now) }
 {
     let mut list = Vec::new(alloc);
     for d in datoms {

@@ -1,4 +1,4 @@
-//! What is found under an item's name, as far as it may be given.
+//! What is found of what an item asks for, as far as it may be given.
 ghost use Rattle.std.specs.Prelude.{◌≡◌, Some, IfOk};
 ghost use Rattle.fb_model.specs.Facts.{facts as facts_of};
 ghost use Rattle.fb_model.specs.Schema.{attribute_of};
@@ -6,33 +6,54 @@ ghost use Rattle.fb_schema.specs.Parts.{model_attribute};
 ghost use Rattle.pull_model.specs.Found as model;
 ghost use Rattle.pull_model.specs.Tree as tree;
 ghost use Rattle.pull_pattern.specs.View.{model_options, model_limit};
-ghost use Rattle.fb_pull.specs.Finding.{Finds, most_in, most_entities};
+ghost use Rattle.fb_pull.specs.Finding.{CanBeSought, Finds, name_sought, most_in, most_entities};
 ghost use Rattle.fb_pull.specs.Near.{IsNear};
 ghost use Rattle.fb_pull.specs.Views.{Sees};
 
-use crate::facts::{referred, referring, values};
+use crate::facts::{referred, referring, value, values};
 use crate::near::Near;
 use edn_form::Edn;
 use fb_db::Db;
 use fb_memory::Memory;
 use fb_preds::Selector;
 use fb_schema::{Attribute, schemas_tell_of_attributes};
+use fb_text::Text;
 use pull_pattern::{Limit, Name, Options};
 use std::alloc::Global;
 
 /// How many values a pull gives without a limit.
 const USUAL_LIMIT: u32 = 1000;
 
-/// What is found under a name.
+/// What an item asks for.
+#[derive(Clone, Copy)]
+pub enum Sought<'a> {
+    /// What the name means, forward or reversed.
+    Named(&'a Name),
+    /// An attribute, by its own name.
+    Own(&'a Attribute),
+}
+
+impl<'a> Sought<'a> {
+    /// The name by which it is asked for.
+    pub fn name(self) -> &'a Text
+        ensures { result.now ≡ name_sought self.entry }
+    {
+        match self {
+            Sought::Named(name) => name.written(),
+            Sought::Own(attribute) => &attribute.ident,
+        }
+    }
+}
+
+/// What is found.
 #[derive(Drop)]
 pub enum Found {
     /// The name is that of no attribute, or no entity can be meant by it.
     Absent,
-    /// The forms of the values.
-    Values {
-        several: bool,
-        forms: Vec<Edn>,
-    },
+    /// The form of the one value that there may be.
+    Value(Option<Edn>),
+    /// The forms of the values, of which there may be several.
+    Values(Vec<Edn>),
     /// Entities, which may be parts of this one.
     Entities {
         several: bool,
@@ -41,12 +62,33 @@ pub enum Found {
     },
 }
 
-/// What is found of the entity under the name, forward or reversed: of entities one more than may be given as maps, which is one too
-/// many.
-pub fn found_under<S: Selector>(
+/// What is found of what is sought of the entity: of entities one more than may be given as maps, which is one too many.
+pub fn found_of<S: Selector>(
     alloc: Global,
     db: &Db<S>,
-    near: &Near,
+    near: &Near<'_>,
+    e: u64,
+    sought: Sought<'_>,
+    options: &Options,
+    maps: u32,
+) -> Result<Found, Memory>
+    requires own { CanBeSought (facts_of db.now.snapshot.entries) sought }
+    requires near { IsNear db.now (S.selects db.now.filter) e near.now }
+    ensures { (facts : model.Db) → Sees db.now (S.selects db.now.filter) facts
+        → IfOk result (λ found. Finds (model.found facts e (name_sought sought.entry))
+        (model_options options.now) maps found) }
+{
+    match sought {
+        Sought::Named(name) => found_under(alloc, db, near, e, name, options, maps),
+        Sought::Own(attribute) => found_forward(alloc, db, near, e, attribute, options, maps),
+    }
+}
+
+/// What is found under a name, forward or reversed.
+fn found_under<S: Selector>(
+    alloc: Global,
+    db: &Db<S>,
+    near: &Near<'_>,
     e: u64,
     name: &Name,
     options: &Options,
@@ -73,7 +115,7 @@ pub fn found_under<S: Selector>(
 fn found_forward<S: Selector>(
     alloc: Global,
     db: &Db<S>,
-    near: &Near,
+    near: &Near<'_>,
     e: u64,
     attribute: &Attribute,
     options: &Options,
@@ -97,8 +139,11 @@ fn found_forward<S: Selector>(
             list,
         });
     }
+    if !several {
+        return Ok(Found::Value(value(db, near, e, attribute.id)?));
+    }
     let forms = values(alloc, db, near, e, attribute.id, most_values(limit))?;
-    Ok(Found::Values { several, forms })
+    Ok(Found::Values(forms))
 }
 
 /// A part has one whole.

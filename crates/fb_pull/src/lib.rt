@@ -9,6 +9,7 @@ mod keys;
 mod made;
 mod names;
 mod near;
+mod paths;
 mod pulls;
 mod stops;
 mod trees;

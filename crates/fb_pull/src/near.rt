@@ -6,8 +6,8 @@ ghost use Rattle.fb_pull.specs.Near.{IsNear};
 use fb_db::Db;
 use fb_memory::Memory;
 use fb_preds::Selector;
-use fb_scan::first;
-use fb_values::{Datoms, Order, Probe};
+use fb_scan::lent::first;
+use fb_values::{Datom, Order, Probe};
 use pull_pattern::Item;
 use std::alloc::Global;
 
@@ -16,20 +16,20 @@ const FEW: usize = 32;
 
 /// What is at hand of an entity.
 #[derive(Drop)]
-pub enum Near {
+pub enum Near<'a> {
     /// All of its datoms in view, by their attributes.
-    Few(Datoms),
+    Few(Vec<&'a Datom>),
     /// Nothing: each attribute is sought in the index.
     Nothing,
 }
 
 /// The entity's datoms, if the items ask for all of them and they are few.
-pub fn at_hand<S: Selector>(
+pub fn at_hand<'a, S: Selector>(
     alloc: Global,
-    db: &Db<S>,
+    db: &'a Db<S>,
     e: u64,
     items: &[Item],
-) -> Result<Near, Memory>
+) -> Result<Near<'a>, Memory>
     ensures { IfOk result (λ near. IsNear db.now (S.selects db.now.filter) e near) }
 {
     if !has_wildcard(items) {

@@ -42,7 +42,7 @@ pub fn pull<S: Selector>(
         depth: MOST_AROUND,
         maps: MOST_MAPS,
     };
-    match tree(&walk, pattern, &[], e, limits) {
+    match tree(&walk, pattern, None, e, limits) {
         Ok(told) => Ok(form_of(told)),
         Err(Stop::TooLarge) => Err(PullStop::TooLarge),
         Err(Stop::Memory) => Err(PullStop::Memory),

@@ -1,31 +1,36 @@
 //! The tree of an entity. It recurses as deep as maps may be inside one another.
 ghost use Rattle.std.specs.Prelude.{◌≡◌, ◌∷◌, ◌&&◌, ◌==◌, [], not, map, fold, drop, List, ℕ, if◌then◌else◌, IfOk};
 ghost use Rattle.edn_form.specs.View.{form_of, pairs_of};
-ghost use Rattle.pull_model.specs.Found as found;
+ghost use Rattle.fb_model.specs.Facts.{facts as facts_of};
+ghost use Rattle.pull_model.specs.Found as finding;
 ghost use Rattle.pull_model.specs.Found.{Db as Facts};
 ghost use Rattle.pull_model.specs.Made as made;
 ghost use Rattle.pull_model.specs.Patterns as patterns;
 ghost use Rattle.pull_model.specs.Tree as model;
 ghost use Rattle.pull_pattern.specs.View.{model_pattern, pattern_of, model_item, model_options, model_below};
 ghost use Rattle.fb_pull.specs.Below.{made_by};
-ghost use Rattle.fb_pull.specs.Finding.{Finds};
-ghost use Rattle.fb_pull.specs.Stands.{IsAt, HasNear, made_at, inside_at};
+ghost use Rattle.fb_pull.specs.Attributes.{IsOwn};
+ghost use Rattle.fb_pull.specs.Finding.{CanBeSought, Finds, name_sought};
+ghost use Rattle.fb_pull.specs.Paths.{path_above};
+ghost use Rattle.fb_pull.specs.Stands.{IsAt, HasNear, made_at, inside_at, with_other};
 ghost use Rattle.fb_pull.specs.Making.{Makes, MakesInside, MakesSeveral, Adds, IsInside, with_own};
 ghost use Rattle.fb_pull.specs.Views.{Sees};
 
 use crate::below::{Inner, inner_of, usual};
-use crate::found::{Found, found_under};
+use crate::found::{Found, Sought, found_of};
 use crate::keys::Key;
 use crate::made::{Inside, Limits, Pulled, Several, collected, number, or_default, stub};
-use crate::names::names_of_entity;
+use crate::names::attributes_of_entity;
 use crate::near::{Near, at_hand};
+use crate::paths::Path;
 use crate::stops::Stop;
 use edn_form::Edn;
 use fb_db::Db;
 use fb_memory::Memory;
 use fb_preds::Selector;
+use fb_schema::Attribute;
 use fb_text::Text;
-use pull_pattern::{Below, Item, Name, Options, Pattern};
+use pull_pattern::{Below, Item, Name, Options, Pattern, is_reversed};
 use std::alloc::Global;
 
 /// What a pull walks.
@@ -36,12 +41,12 @@ pub struct Walk<'a, S> {
 }
 
 /// Where it is: at an entity, with what is at hand of it, and the path that led to it, which begins with the entity itself.
-#[derive(Clone, Copy)]
-struct Stand<'a> {
+#[derive(Drop)]
+struct Stand<'a, 'd, 'p> {
     pattern: &'a Pattern,
     e: u64,
-    near: &'a Near,
-    path: &'a [u64],
+    near: Near<'d>,
+    path: Path<'p>,
     limits: Limits,
 }
 
@@ -49,33 +54,34 @@ struct Stand<'a> {
 #[derive(Clone, Copy)]
 struct Asked<'a> {
     place: usize,
-    name: &'a Name,
+    sought: Sought<'a>,
     options: &'a Options,
     below: &'a Below,
 }
 
 /// The tree of the entity under the pattern, where `above` led to it.
 #[cycle(tree)]
-pub fn tree<S: Selector>(
+pub fn tree<'p, S: Selector>(
     walk: &Walk<'_, S>,
     pattern: &Pattern,
-    above: &[u64],
+    above: Option<&'p Path<'p>>,
     e: u64,
     limits: Limits,
 ) -> Result<Pulled, Stop>
     ensures { (facts : Facts) → Sees walk.now.db.now (S.selects walk.now.db.now.filter) facts
-        → Makes (model.tree limits.depth facts (model_pattern pattern.now) above.now e) limits result }
+        → Makes (model.tree limits.depth facts (model_pattern pattern.now) (path_above above.entry) e)
+        limits result }
 {
     if limits.depth == 0 || limits.maps == 0 {
         return Err(Stop::TooLarge);
     }
-    let path = path_to(walk.alloc, e, above)?;
     let near = at_hand(walk.alloc, walk.db, e, pattern.items())?;
+    let path = Path::to(e, above);
     let at = Stand {
         pattern,
         e,
-        near: &near,
-        path: &path,
+        near,
+        path,
         limits: Limits {
             depth: limits.depth - 1,
             maps: limits.maps - 1,
@@ -90,7 +96,7 @@ pub fn tree<S: Selector>(
 
 /// The pairs of the entity's map.
 #[cycle(tree)]
-fn pairs<S: Selector>(walk: &Walk<'_, S>, at: &Stand<'_>) -> Result<Inside, Stop>
+fn pairs<S: Selector>(walk: &Walk<'_, S>, at: &Stand<'_, '_, '_>) -> Result<Inside, Stop>
     requires path { IsAt at.now }
     requires near { HasNear walk.now.db.now (S.selects walk.now.db.now.filter) at.now }
     ensures { (facts : Facts) → Sees walk.now.db.now (S.selects walk.now.db.now.filter) facts
@@ -108,7 +114,7 @@ fn pairs<S: Selector>(walk: &Walk<'_, S>, at: &Stand<'_>) -> Result<Inside, Stop
 #[cycle(tree)]
 fn add_item<S: Selector>(
     walk: &Walk<'_, S>,
-    at: &Stand<'_>,
+    at: &Stand<'_, '_, '_>,
     inside: &mut Inside,
     place: usize,
     item: &Item,
@@ -131,7 +137,7 @@ fn add_item<S: Selector>(
         } => {
             let asked = Asked {
                 place,
-                name,
+                sought: Sought::Named(name),
                 options,
                 below,
             };
@@ -144,7 +150,7 @@ fn add_item<S: Selector>(
 #[cycle(tree)]
 fn add_everything<S: Selector>(
     walk: &Walk<'_, S>,
-    at: &Stand<'_>,
+    at: &Stand<'_, '_, '_>,
     inside: &mut Inside,
     place: usize,
 ) -> Result<(), Stop>
@@ -158,9 +164,9 @@ fn add_everything<S: Selector>(
         at.now.limits inside.new result }
 {
     add_own(walk.alloc, inside, at.e, &Options::none())?;
-    let names = names_of_entity(walk.alloc, walk.db, at.near, at.e)?;
-    for name in &names {
-        add_other(walk, at, inside, place, name)?;
+    let attributes = attributes_of_entity(walk.alloc, walk.db, &at.near, at.e)?;
+    for attribute in &attributes {
+        add_other(walk, at, inside, place, *attribute)?;
     }
     Ok(())
 }
@@ -169,7 +175,34 @@ fn add_everything<S: Selector>(
 #[cycle(tree)]
 fn add_other<S: Selector>(
     walk: &Walk<'_, S>,
-    at: &Stand<'_>,
+    at: &Stand<'_, '_, '_>,
+    inside: &mut Inside,
+    place: usize,
+    attribute: &Attribute,
+) -> Result<(), Stop>
+    requires path { IsAt at.now }
+    requires near { HasNear walk.now.db.now (S.selects walk.now.db.now.filter) at.now }
+    requires own { IsOwn (facts_of walk.now.db.now.snapshot.entries) attribute.now }
+    ensures { (facts : Facts) → Sees walk.now.db.now (S.selects walk.now.db.now.filter) facts
+        → (before : made.Inside) → IsInside before at.now.limits inside.old
+        → Adds (if model.has_item_for attribute.now.ident (model_pattern at.now.pattern.now)
+        then before else with_other at.now facts before place attribute.now.ident)
+        at.now.limits inside.new result }
+{
+    if has_item_for(&attribute.ident, at.pattern.items()) {
+        return Ok(());
+    }
+    if is_reversed(attribute.ident.as_str()) {
+        return add_meant(walk, at, inside, place, &attribute.ident);
+    }
+    add_sought(walk, at, inside, place, Sought::Own(attribute))
+}
+
+/// Adds what the name means, which may be another attribute than the one that has it as its own.
+#[cycle(tree)]
+fn add_meant<S: Selector>(
+    walk: &Walk<'_, S>,
+    at: &Stand<'_, '_, '_>,
     inside: &mut Inside,
     place: usize,
     name: &Text,
@@ -178,17 +211,32 @@ fn add_other<S: Selector>(
     requires near { HasNear walk.now.db.now (S.selects walk.now.db.now.filter) at.now }
     ensures { (facts : Facts) → Sees walk.now.db.now (S.selects walk.now.db.now.filter) facts
         → (before : made.Inside) → IsInside before at.now.limits inside.old
-        → Adds (if model.has_item_for name.now (model_pattern at.now.pattern.now) then before
-        else model.with_item (made_at at.now facts) before
-        (place, patterns.attribute name.now patterns.no_options patterns.usual))
-        at.now.limits inside.new result }
+        → Adds (with_other at.now facts before place name.now) at.now.limits inside.new result }
 {
-    if has_item_for(name, at.pattern.items()) {
-        return Ok(());
-    }
+    let name = Name::of(walk.alloc, name)?;
+    add_sought(walk, at, inside, place, Sought::Named(&name))
+}
+
+/// Adds what is sought where nothing else is said of it.
+#[cycle(tree)]
+fn add_sought<S: Selector>(
+    walk: &Walk<'_, S>,
+    at: &Stand<'_, '_, '_>,
+    inside: &mut Inside,
+    place: usize,
+    sought: Sought<'_>,
+) -> Result<(), Stop>
+    requires path { IsAt at.now }
+    requires near { HasNear walk.now.db.now (S.selects walk.now.db.now.filter) at.now }
+    requires own { CanBeSought (facts_of walk.now.db.now.snapshot.entries) sought }
+    ensures { (facts : Facts) → Sees walk.now.db.now (S.selects walk.now.db.now.filter) facts
+        → (before : made.Inside) → IsInside before at.now.limits inside.old
+        → Adds (with_other at.now facts before place (name_sought sought.entry)) at.now.limits
+        inside.new result }
+{
     let asked = Asked {
         place,
-        name: &Name::of(walk.alloc, name)?,
+        sought,
         options: &Options::none(),
         below: &usual(),
     };
@@ -199,21 +247,22 @@ fn add_other<S: Selector>(
 #[cycle(tree)]
 fn add_attribute<S: Selector>(
     walk: &Walk<'_, S>,
-    at: &Stand<'_>,
+    at: &Stand<'_, '_, '_>,
     inside: &mut Inside,
     asked: &Asked<'_>,
 ) -> Result<(), Stop>
     requires path { IsAt at.now }
     requires near { HasNear walk.now.db.now (S.selects walk.now.db.now.filter) at.now }
+    requires own { CanBeSought (facts_of walk.now.db.now.snapshot.entries) asked.now.sought }
     ensures { (facts : Facts) → Sees walk.now.db.now (S.selects walk.now.db.now.filter) facts
         → (before : made.Inside) → IsInside before at.now.limits inside.old
         → Adds (model.with_item (made_at at.now facts) before (
           asked.now.place,
-          patterns.attribute asked.now.name.now (model_options asked.now.options.now)
+          patterns.attribute (name_sought asked.now.sought) (model_options asked.now.options.now)
               (model_below asked.now.below.now),
         )) at.now.limits inside.new result }
 {
-    let key = Key::of(asked.name.written(), asked.options);
+    let key = Key::of(asked.sought.name(), asked.options);
     if key.is_in(&inside.pairs) {
         return Ok(());
     }
@@ -229,24 +278,25 @@ fn add_attribute<S: Selector>(
 #[cycle(tree)]
 fn value<S: Selector>(
     walk: &Walk<'_, S>,
-    at: &Stand<'_>,
+    at: &Stand<'_, '_, '_>,
     asked: &Asked<'_>,
     left: u32,
 ) -> Result<Pulled, Stop>
-    requires { HasNear walk.now.db.now (S.selects walk.now.db.now.filter) at.now }
+    requires near { HasNear walk.now.db.now (S.selects walk.now.db.now.filter) at.now }
+    requires own { CanBeSought (facts_of walk.now.db.now.snapshot.entries) asked.now.sought }
     ensures { (facts : Facts) → Sees walk.now.db.now (S.selects walk.now.db.now.filter) facts
         → Makes (model.value_of (model.tree at.now.limits.depth facts)
-        (model_pattern at.now.pattern.now) asked.now.place at.now.path.now
+        (model_pattern at.now.pattern.now) asked.now.place at.now.path
         (model_options asked.now.options.now) (model_below asked.now.below.now)
-        (found.found facts at.now.e asked.now.name.now))
+        (finding.found facts at.now.e (name_sought asked.now.sought)))
         (record { depth = at.now.limits.depth; maps = left }) result }
 {
-    match found_under(
+    match found_of(
         walk.alloc,
         walk.db,
-        at.near,
+        &at.near,
         at.e,
-        asked.name,
+        asked.sought,
         asked.options,
         left,
     )? {
@@ -254,8 +304,9 @@ fn value<S: Selector>(
             form: None,
             maps: 0,
         }),
-        Found::Values { several, forms } => Ok(Pulled {
-            form: collected(several, forms),
+        Found::Value(form) => Ok(Pulled { form, maps: 0 }),
+        Found::Values(forms) => Ok(Pulled {
+            form: collected(true, forms),
             maps: 0,
         }),
         Found::Entities {
@@ -268,7 +319,7 @@ fn value<S: Selector>(
                 depth: at.limits.depth,
                 maps: left,
             };
-            let all = all_told(walk, at.path, &inner, &list, limits)?;
+            let all = all_told(walk, &at.path, &inner, &list, limits)?;
             Ok(Pulled {
                 form: collected(several, all.forms),
                 maps: all.maps,
@@ -279,9 +330,9 @@ fn value<S: Selector>(
 
 /// What a pull gives of each of the entities.
 #[cycle(tree)]
-fn all_told<S: Selector>(
+fn all_told<'p, S: Selector>(
     walk: &Walk<'_, S>,
-    path: &[u64],
+    path: &'p Path<'p>,
     inner: &Inner,
     entities: &[u64],
     limits: Limits,
@@ -305,9 +356,9 @@ fn all_told<S: Selector>(
 
 /// What a pull gives of an entity.
 #[cycle(tree)]
-fn told<S: Selector>(
+fn told<'p, S: Selector>(
     walk: &Walk<'_, S>,
-    path: &[u64],
+    path: &'p Path<'p>,
     inner: &Inner,
     n: u64,
     limits: Limits,
@@ -317,9 +368,9 @@ fn told<S: Selector>(
 {
     match inner {
         Inner::Number => number_alone(walk.alloc, n, limits),
-        Inner::Along(_) if is_on(path, n) => number_alone(walk.alloc, n, limits),
-        Inner::Along(pattern) => tree(walk, pattern, path, n, limits),
-        Inner::Apart(pattern) => tree(walk, pattern, &[], n, limits),
+        Inner::Along(_) if path.has(n) => number_alone(walk.alloc, n, limits),
+        Inner::Along(pattern) => tree(walk, pattern, Some(path), n, limits),
+        Inner::Apart(pattern) => tree(walk, pattern, None, n, limits),
     }
 }
 
@@ -369,27 +420,4 @@ fn is_for(item: &Item, name: &Text) -> bool
         Item::Attribute { name: other, .. } => other.written().as_str() == name.as_str(),
         _ => false,
     }
-}
-
-fn is_on(path: &[u64], n: u64) -> bool
-    ensures { result ≡ model.is_on path.now n }
-{
-    for m in path {
-        if n == *m {
-            return true;
-        }
-    }
-    false
-}
-
-/// The path to an entity, itself the first.
-fn path_to(alloc: Global, e: u64, above: &[u64]) -> Result<Vec<u64>, Memory>
-    ensures { IfOk result (λ path. path.items ≡ e ∷ above.now) }
-{
-    let mut path = Vec::with_capacity(alloc, above.len().saturating_add(1))?;
-    path.push(e)?;
-    for n in above {
-        path.push(*n)?;
-    }
-    Ok(path)
 }

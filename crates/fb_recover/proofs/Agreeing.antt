@@ -9,28 +9,29 @@ use Rattle.std.proofs.lemmas.Map.Made.{length-le_from_is_member}
 use mathlib.Core.Logic.{dite}
 use native.Mathlib.Decide.{ℕ_discrete}
 use Rattle.std.proofs.lemmas.List.{nil_from_length}
-use Rattle.std.proofs.lemmas.List.Elements.{All-contains}
+use Rattle.std.proofs.lemmas.List.Elements.{All-contains, Contains-append_right}
 use Rattle.fb_values.specs.declared.facts.Entry.{Entry}
 use Rattle.fb_model.specs.FirstEntry.{first_entry}
 use Rattle.fb_model.specs.Lawful.{IsLawful}
 use Rattle.disk_model.specs.Disk.{IfKnown}
 use Rattle.view_model.specs.Stands.{RootStands}
 use Rattle.log_model.specs.Nodes.{Nodes, Roots as FileRoots, ids_in}
-use Rattle.log_model.specs.Kept.{KeptRoot, FileKeeps, NoneAgrees, kept_roots, nodes_of, are_good}
+use Rattle.log_model.specs.Kept.{KeptRoot, FileKeeps, Agrees, NoneAgrees, kept_roots, nodes_of, are_good}
 use Rattle.log_model.proofs.KeptRoots.{one_keeping}
 use Rattle.fb_journal.specs.Journals.{StaysKnown}
 use Rattle.seg_tree.specs.Ids.{next_above}
 use Rattle.seg_tree.specs.Indexes.{root_ids, trees_of}
 use Rattle.seg_codec.specs.Trees.{AreTreesOf, AreIdsOf, Fits}
-use Rattle.seg_codec.proofs.Among.{mapped_member}
+use Rattle.seg_codec.proofs.Among.{mapped_member, member_here, member_cases, no_member}
 use Rattle.seg_store.specs.declared.loads.KeptTrees.{KeptTrees}
 use Rattle.seg_store.specs.declared.loads.Loaded.{Loaded}
+use Rattle.seg_store.specs.declared.newest.NewestRoot.{NewestRoot}
 use Rattle.seg_store.specs.declared.stores.SegStore.{SegStore}
 use Rattle.seg_tree.specs.declared.roots.Roots.{Roots}
 use Rattle.seg_store.specs.Stores.{disk_in, next_in, node_count, StoreKeeps}
 use Rattle.seg_store.specs.Keeping.{FitsStore}
-use Rattle.seg_store.specs.Loads.{kept_of, IsLoaded}
-use Rattle.seg_store.proofs.Fitting.{fits_none}
+use Rattle.seg_store.specs.Loads.{kept_of, IsLoaded, IsNewestRoot}
+use Rattle.seg_store.proofs.Fitting.{fits_there, fits_none}
 use Rattle.seg_store.proofs.NodeCounts.{no_ids}
 use Rattle.seg_agree.specs.Newest.{IsNewest}
 use Rattle.fb_recover.specs.Openings.{AreNumberedFromOne, AgreesWithNone, HasFault, HasRoot, HasRecordsOf, IsMostlyDead}
@@ -67,6 +68,9 @@ equal_numbers = record {
 known_nodes : (ids : List ℕ) (nodes : Nodes) → IsDistinct nat_eq ids → AreIdsOf ids nodes → length ids ≤ length (ids_in nodes)
 known_nodes ids nodes distinct are =
     length-le_from_is_member equal_numbers ids (ids_in nodes) distinct (λ id member. sym (are id) ∙ member)
+
+only_one : (one trees : KeptTrees) → Contains (one ∷ []) trees → one ≡ trees
+only_one one trees member = elim (member_cases one trees [] member) [ inl same ↦ same | inr later ↦ absurd (no_member trees later) ]
 
 module _ {D : Type 0} {g : _} (bytes : D → Option (List ℕ)) (images : D → List ℕ → Type 0) (told : Option (List ℕ)) (h : List Entry) where
   -- a store that keeps no root has no record
@@ -192,6 +196,116 @@ module _ {D : Type 0} {g : _} (bytes : D → Option (List ℕ)) (images : D → 
       } in
       subst (λ (t : KeptTrees). IsBased bytes images told h (record { store = based.store; trees = t })) (sym same) found
 
+  -- so with the newest root alone
+  module _ (newest : NewestRoot D g) (is : IsNewestRoot bytes images told newest) where
+    newest_among : Contains (kept_roots is.read) (kept_of newest.trees)
+    newest_among = subst (λ (roots : List KeptRoot). Contains roots (kept_of newest.trees)) (sym is.roots)
+        (Contains-append_right is.older (kept_of newest.trees ∷ []) (kept_of newest.trees) (member_here (kept_of newest.trees) []))
+
+    newest_keeps : IfKnown told (λ file. FileKeeps file (kept_roots is.read))
+    newest_keeps file was = (is.read, is.file file was, refl)
+
+    fits_newest : FitsStore bytes images newest.store newest.trees.roots
+    fits_newest = record {
+      records = is.read;
+      keeps = is.store;
+      fits = fits_there (nodes_of is.read) is.ids newest.trees.roots is.there;
+    }
+
+    pub fits_agreeing : (trees : KeptTrees) → Contains (newest.trees ∷ []) trees → FitsStore bytes images newest.store trees.roots
+    fits_agreeing trees one = subst (λ (t : KeptTrees). FitsStore bytes images newest.store t.roots)
+        (only_one newest.trees trees one) fits_newest
+
+    still_newest : (store : SegStore D g) → IsDistinct nat_eq newest.store.ids
+        → (node_count newest.store ≤ 2 * length (root_ids newest.trees.roots) → store ≡ newest.store)
+        → IfKnown told (λ file. HasFault file ⊎ AgreesWithNone h file ⊎ IsMostlyDead newest.trees.roots file
+        ⊎ HasRecordsOf bytes images store file)
+    still_newest store distinct stays file was =
+        let n = 2 * length (root_ids newest.trees.roots) in
+        let nodes = known_nodes newest.store.ids (nodes_of is.read) distinct is.store.ids in
+        let go : (b : Bool) → nat_lt n (node_count newest.store) ≡ b
+        → HasFault file ⊎ AgreesWithNone h file ⊎ IsMostlyDead newest.trees.roots file ⊎ HasRecordsOf bytes images store file =
+        elim [
+          | true ↦ λ test. inr (inr (inl (is.read, is.file file was, omega (arith, ltb-true n (node_count newest.store) test, nodes))))
+          | false ↦ λ test. inr (inr (inr (
+            is.read,
+            is.file file was,
+            subst (λ (s : SegStore D g). StoreKeeps bytes images is.read s)
+                (sym (stays (ltb-false n (node_count newest.store) test))) is.store,
+          )))
+        ] in
+        go (nat_lt n (node_count newest.store)) refl
+
+    found_newest : (based : Based D g) → based.trees ≡ newest.trees → RootStands (trees_of newest.trees.roots) h newest.trees.c
+        → FitsStore bytes images based.store newest.trees.roots
+        → (HasRoot bytes images newest.store (kept_of newest.trees) → HasRoot bytes images based.store (kept_of newest.trees))
+        → (next_above (root_ids newest.trees.roots) ≤ next_in newest.store → next_above (root_ids newest.trees.roots) ≤ next_in based.store)
+        → (node_count based.store ≤ 2 * length (root_ids newest.trees.roots)) ⊎ (based.store ≡ newest.store)
+        → (node_count newest.store ≤ 2 * length (root_ids newest.trees.roots) → based.store ≡ newest.store)
+        → IsDistinct nat_eq newest.store.ids
+        → StaysKnown told (bytes (disk_in based.store))
+        → IsBased bytes images told h based
+    found_newest based same agrees fits goes_on higher room still distinct stays =
+        let trees = newest.trees in
+        let found : IsBased bytes images told h (record { store = based.store; trees = trees }) = record {
+          stands = agrees;
+          coverage = λ file was. (
+            kept_roots is.read,
+            newest_keeps file was,
+            inl (
+              kept_of trees,
+              record {
+                older = is.older;
+                newer = [];
+                place = is.roots;
+                agrees = agrees;
+                newest = λ root member stands. no_member root member;
+              },
+              refl,
+            ),
+          );
+          fits = fits;
+          root = λ file was. inr (inr (goes_on (is.read, is.store, newest_among)));
+          below = λ file was. inr (inr (higher (below_known newest.store.ids (nodes_of is.read) is.ids trees.roots is.store.ids is.there)));
+          room = ⊎_elim (λ few. inl few)
+              (λ kept. inr (λ file was. (
+                is.read,
+                is.file file was,
+                subst (λ (s : SegStore D g). StoreKeeps bytes images is.read s) (sym kept) is.store,
+              ))) room;
+          still = still_newest based.store distinct still;
+          ids = inr (is.read, is.file, is.ids, is.there);
+          great = λ file was above. (is.read, is.file file was, great_there (nodes_of is.read) is.ids trees.roots is.there above);
+          anew = λ file was none.
+              let all = one_keeping file none.0 (kept_roots is.read) none.1 (newest_keeps file was) in
+              let kept = subst (λ (roots : List KeptRoot). Contains roots (kept_of trees)) (sym all) newest_among in
+              absurd (none.2 (kept_of trees) kept agrees);
+          stays = stays;
+        } in
+        subst (λ (t : KeptTrees). IsBased bytes images told h (record { store = based.store; trees = t })) (sym same) found
+
+    pub based_newest : (trees : KeptTrees) (based : Based D g) → IsNewest h (newest.trees ∷ []) (Some trees)
+        → based.trees ≡ trees → FitsStore bytes images based.store trees.roots
+        → (HasRoot bytes images newest.store (kept_of trees) → HasRoot bytes images based.store (kept_of trees))
+        → (next_above (root_ids trees.roots) ≤ next_in newest.store → next_above (root_ids trees.roots) ≤ next_in based.store)
+        → (node_count based.store ≤ 2 * length (root_ids trees.roots)) ⊎ (based.store ≡ newest.store)
+        → (node_count newest.store ≤ 2 * length (root_ids trees.roots) → based.store ≡ newest.store)
+        → IsDistinct nat_eq newest.store.ids
+        → StaysKnown told (bytes (disk_in based.store))
+        → IsBased bytes images told h based
+    based_newest trees based one =
+        subst (λ (t : KeptTrees). Agrees h (kept_of t) → based.trees ≡ t → FitsStore bytes images based.store t.roots
+        → (HasRoot bytes images newest.store (kept_of t) → HasRoot bytes images based.store (kept_of t))
+        → (next_above (root_ids t.roots) ≤ next_in newest.store → next_above (root_ids t.roots) ≤ next_in based.store)
+        → (node_count based.store ≤ 2 * length (root_ids t.roots)) ⊎ (based.store ≡ newest.store)
+        → (node_count newest.store ≤ 2 * length (root_ids t.roots) → based.store ≡ newest.store)
+        → IsDistinct nat_eq newest.store.ids
+        → StaysKnown told (bytes (disk_in based.store))
+        → IsBased bytes images told h based)
+        (only_one newest.trees trees one.0)
+        (λ agrees same fits. found_newest based same agrees fits)
+        one.1.agrees
+
   -- the first entry
   pub based_first : (loaded : Loaded D g) (based : Based D g) → IsLawful h
       → IfKnown told (λ file. FileKeeps file (map kept_of loaded.kept.items))
@@ -214,3 +328,22 @@ module _ {D : Type 0} {g : _} (bytes : D → Option (List ℕ)) (images : D → 
     anew = λ file was agrees. (ids, empty);
     stays = stays;
   }
+
+-- What holds of a file that is known later holds of the same file where it is known now.
+pub based_known : {D : Type 0} {g : _} (bytes : D → Option (List ℕ)) (images : D → List ℕ → Type 0) (told later : Option (List ℕ))
+    (h : List Entry) (based : Based D g) → IfKnown told (λ was. later ≡ Some was) → IsBased bytes images later h based
+    → IsBased bytes images told h based
+based_known bytes images told later h based same is = record {
+  stands = is.stands;
+  coverage = λ file was. is.coverage file (same file was);
+  fits = is.fits;
+  room = ⊎_elim (λ few. inl few) (λ kept. inr (λ file was. kept file (same file was))) is.room;
+  still = λ file was. is.still file (same file was);
+  root = λ file was. is.root file (same file was);
+  below = λ file was. is.below file (same file was);
+  ids = ⊎_elim (λ numbered. inl numbered)
+      (λ of_file. inr (of_file.0, (λ file was. of_file.1 file (same file was)), of_file.2, of_file.3)) is.ids;
+  great = λ file was. is.great file (same file was);
+  anew = λ file was. is.anew file (same file was);
+  stays = λ file was. is.stays file (same file was);
+}

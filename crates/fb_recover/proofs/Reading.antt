@@ -16,7 +16,6 @@ use Rattle.fb_journal.specs.Readings.{HasRead}
 use Rattle.fb_journal.specs.declared.readings.Place.{Place}
 use Rattle.fb_journal.specs.declared.readings.Reading.{Reading}
 use Rattle.fb_recover.specs.declared.faults.OpenFault.{OpenFault}
-use Rattle.fb_recover.specs.declared.judging.Judged.{Judged}
 use Rattle.fb_recover.specs.declared.records.Found.{Found}
 use Rattle.fb_recover.specs.declared.records.Found.TheVariants.{Entries, Misfit}
 use Rattle.fb_recover.specs.Faults.{MatchesFault}
@@ -68,22 +67,22 @@ pub misfit-stays : (records : List (List ℕ)) (payload : List ℕ) (nth at : �
     → HaveFound (records ++ payload ∷ []) (Misfit nth at)
 misfit-stays records payload nth at is = bad-stays [] records (payload ∷ []) nth at is
 
-pub found-more : (records : List (List ℕ)) (judged : Judged) (place : Place) (payload : List ℕ) (found : Found)
-    → HaveFound records (Entries judged)
-    → place.nth ≡ length records → place.at ≡ byte_in_log records 0 → IsFound judged place payload found
+pub found-more : (records : List (List ℕ)) (entries : List Entry) (place : Place) (payload : List ℕ) (found : Found)
+    → ArePayloadsOf entries records
+    → place.nth ≡ length records → place.at ≡ byte_in_log records 0 → IsFound entries place payload found
     → HaveFound (records ++ payload ∷ []) found
-found-more records judged place payload (Entries next) have number here is =
-    (have.0 ++ is.0 ∷ [], payloads-push have.0 records is.0 payload have.1 is.1, is.2 have.0 have.2)
-found-more records judged place payload (Misfit nth at) have number here is =
+found-more records entries place payload (Entries next) are number here is =
+    subst (λ (l : List Entry). ArePayloadsOf l (records ++ payload ∷ [])) (sym is.2) (payloads-push entries records is.0 payload are is.1)
+found-more records entries place payload (Misfit nth at) are number here is =
     let byte : ℕ = is.0 in
     let many : length records ≡ nth = sym (is.2 ∙ number) in
     let there : byte_in_log records byte ≡ at = omega (arith, is.3, here) in
-    bad-behind [] have.0 records payload [] byte have.1 is.1 ∙ (λ i. bad_at (many i) (there i))
+    bad-behind [] entries records payload [] byte are is.1 ∙ (λ i. bad_at (many i) (there i))
 
-pub found-misfit : (records : List (List ℕ)) (judged : Judged) (whole read : List ℕ) (nth at : ℕ) → HaveFound records (Entries judged)
+pub found-misfit : (records : List (List ℕ)) (entries : List Entry) (whole read : List ℕ) (nth at : ℕ) → ArePayloadsOf entries records
     → IsBehind records whole read (Bad nth at) → HaveFound (records ++ whole ∷ []) (Misfit nth at)
-found-misfit records judged whole read nth at have is =
-    bad-behind [] have.0 records whole [] is.0 have.1 is.1 ∙ (λ i. bad_at (sym is.2 i) (sym is.3 i))
+found-misfit records entries whole read nth at are is =
+    bad-behind [] entries records whole [] is.0 are is.1 ∙ (λ i. bad_at (sym is.2 i) (sym is.3 i))
 
 -- ---- at the end
 

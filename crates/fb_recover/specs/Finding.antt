@@ -6,20 +6,17 @@ use Rattle.log_model.specs.Payload.{payload_says, breaks_at}
 use Rattle.log_model.specs.Storable.{IsPayloadOf}
 use Rattle.log_model.specs.Log.{ArePayloadsOf, bad_at, entries_behind}
 use Rattle.fb_journal.specs.declared.readings.Place.{Place}
-use Rattle.fb_recover.specs.Judging.{IsJudged}
-use Rattle.fb_recover.specs.declared.judging.Judged.{Judged}
 use Rattle.fb_recover.specs.declared.records.Found.{Found}
 use Rattle.fb_recover.specs.declared.records.Found.TheVariants.{Entries, Misfit}
 
 -- each record holds an entry, or this is the first that holds none
 abbrev pub HaveFound : List (List ℕ) → Found → Type 0
-HaveFound records (Entries judged) =
-    (entries : List Entry) × ArePayloadsOf entries records × IsJudged entries judged
+HaveFound records (Entries entries) = ArePayloadsOf entries.items records
 HaveFound records (Misfit nth at) = entries_behind [] records ≡ bad_at nth at
 
--- the entry of the payload with those before it, or the first misfit of the payload at this place
-abbrev pub IsFound : Judged → Place → List ℕ → Found → Type 0
-IsFound before place payload (Entries judged) = (entry : Entry) × IsPayloadOf entry payload
-    × ((entries : List Entry) → IsJudged entries before → IsJudged (entries ++ entry ∷ []) judged)
+-- the entries with that of the payload, or the first misfit of the payload at this place
+abbrev pub IsFound : List Entry → Place → List ℕ → Found → Type 0
+IsFound before place payload (Entries entries) = (entry : Entry) × IsPayloadOf entry payload
+    × (entries.items ≡ before ++ entry ∷ [])
 IsFound before place payload (Misfit nth at) = (byte : ℕ) × (payload_says payload ≡ breaks_at byte)
     × (nth ≡ place.nth) × (at ≡ place.at + byte)

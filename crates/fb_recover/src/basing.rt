@@ -1,5 +1,5 @@
 //! The trees that a history is opened with, and the store whose file they fit.
-ghost use Rattle.std.specs.Prelude.{◌≡◌, ◌⊎◌, ◌≤◌, ◌*◌, ◌^◌, [], ◌∷◌, ℕ, List, length, true, false, nat_eq, IfOk, MatchResult};
+ghost use Rattle.std.specs.Prelude.{◌≡◌, ◌⊎◌, ◌≤◌, ◌*◌, ◌^◌, [], ◌∷◌, ℕ, List, Option, length, map, true, false, nat_eq, IfOk, MatchResult};
 ghost use Rattle.std.specs.List.{IsDistinct};
 ghost use Rattle.disk_model.specs.Disk.{IfKnown};
 ghost use Rattle.fb_model.specs.FirstEntry.{first_entry};
@@ -11,7 +11,9 @@ ghost use Rattle.seg_store.specs.Stores.{disk_in as segments_in, next_in, node_c
 ghost use Rattle.seg_store.specs.Trees.{root_of, HaveStorableDatoms};
 ghost use Rattle.seg_store.specs.Keeping.{FitsStore};
 ghost use Rattle.fb_journal.specs.Journals.{StaysKnown};
-ghost use Rattle.seg_store.specs.Loads.{CountsLoad};
+ghost use Rattle.log_model.specs.Kept.{FileKeeps};
+ghost use Rattle.seg_store.specs.Loads.{kept_of, IsLoaded, IsNewestRoot, CountsLoad};
+ghost use Rattle.seg_agree.specs.Newest.{IsNewest};
 ghost use Rattle.fb_recover.specs.Openings.{AreNumberedFromOne, HasRoot};
 ghost use Rattle.fb_recover.specs.Basing.{IsBased};
 
@@ -21,7 +23,7 @@ use fb_memory::Memory;
 use fb_view::Snapshot;
 use seg_agree::newest_agreeing;
 use seg_store::{
-    KeepFault, KeptTrees, LoadFault, LoadStop, Loaded, SegStore,
+    KeepFault, KeptTrees, LoadFault, LoadStop, Loaded, Newest, NewestRoot, SegStore,
     trees_of_a_lawful_history_are_storable,
 };
 use seg_tree::Roots;
@@ -47,10 +49,77 @@ pub(crate) fn find_base<D: Disk>(
         (λ b. D.faults (segments_in b.store) ≡ D.faults segments)
         (λ s. CountsLoad s.fault (D.faults segments) (D.faults s.disk)) }
 {
-    let Loaded { store, kept } = match SegStore::load(alloc, segments) {
-        Ok(loaded) => loaded,
-        Err(stop) => return Err(stop),
-    };
+    match SegStore::load_newest(alloc, segments) {
+        Ok(Newest::Root(newest)) => based_on_newest(alloc, entries, newest),
+        Ok(Newest::Whole(loaded)) => based_on(alloc, entries, loaded),
+        Err(stop) => Err(stop),
+    }
+}
+
+/// So with the newest root of the file. Where the history does not agree with it, all of its roots are loaded.
+fn based_on_newest<D: Disk>(
+    alloc: Global,
+    entries: &EntryList,
+    newest: NewestRoot<D>,
+) -> Result<Based<D>, LoadStop<D>>
+    requires lawful { IsLawful entries.now }
+    requires newest { (known : Option (List ℕ)) × IsNewestRoot D.bytes D.images known newest }
+    ensures based { IfOk result (λ b. (known : Option (List ℕ))
+        → IsNewestRoot D.bytes D.images known newest
+        → StaysKnown known (D.bytes (segments_in newest.store))
+        → IsBased D.bytes D.images known entries.now b) }
+    ensures counted { MatchResult result
+        (λ b. D.faults (segments_in b.store) ≡ D.faults (segments_in newest.store))
+        (λ s. CountsLoad s.fault (D.faults (segments_in newest.store)) (D.faults s.disk)) }
+{
+    let NewestRoot { store, trees } = newest;
+    match agreeing(alloc, entries, trees) {
+        Ok(Some(trees)) => {
+            trees_of_a_lawful_history_are_storable();
+            with_room(alloc, store, trees)
+        }
+        Ok(None) => match SegStore::load(alloc, store.give_back()) {
+            Ok(loaded) => based_on(alloc, entries, loaded),
+            Err(stop) => Err(stop),
+        },
+        Err(Memory) => Err(LoadStop {
+            fault: LoadFault::Memory,
+            disk: store.give_back(),
+        }),
+    }
+}
+
+/// These trees, if the history agrees with them.
+fn agreeing(
+    alloc: Global,
+    entries: &EntryList,
+    trees: KeptTrees,
+) -> Result<Option<KeptTrees>, Memory>
+    requires { IsLawful entries.now }
+    ensures { IfOk result (IsNewest entries.now (trees ∷ [])) }
+{
+    let kept = vec![in alloc; trees]?;
+    newest_agreeing(alloc, entries, kept)
+}
+
+/// So with all roots of the file.
+fn based_on<D: Disk>(
+    alloc: Global,
+    entries: &EntryList,
+    loaded: Loaded<D>,
+) -> Result<Based<D>, LoadStop<D>>
+    requires lawful { IsLawful entries.now }
+    requires loaded { (known : Option (List ℕ)) × IsLoaded D.bytes D.images known loaded }
+    ensures based { IfOk result (λ b. (known : Option (List ℕ))
+        → IsLoaded D.bytes D.images known loaded
+        → IfKnown known (λ file. FileKeeps file (map kept_of loaded.kept.items))
+        → StaysKnown known (D.bytes (segments_in loaded.store))
+        → IsBased D.bytes D.images known entries.now b) }
+    ensures counted { MatchResult result
+        (λ b. D.faults (segments_in b.store) ≡ D.faults (segments_in loaded.store))
+        (λ s. CountsLoad s.fault (D.faults (segments_in loaded.store)) (D.faults s.disk)) }
+{
+    let Loaded { store, kept } = loaded;
     let keeps_some = !kept.is_empty();
     match newest_agreeing(alloc, entries, kept) {
         Ok(Some(trees)) => {

@@ -1,4 +1,5 @@
-//! Judging the entries of a log one after another, each over the facts that hold before it.
+//! Judging the entries of a log: all together, and where that does not find them lawful, one after another, each over the
+//! facts that hold before it.
 ghost use Rattle.std.specs.Prelude.{◌≡◌, ◌++◌, ◌∷◌, [], List, IfOk, IfErr};
 ghost use Rattle.fb_values.specs.declared.facts.Entry.{Entry};
 ghost use Rattle.fb_model.specs.FirstEntry.{first_entry};
@@ -19,13 +20,53 @@ use fb_model::{
 use fb_schema::Schema;
 use fb_values::Entry;
 use held_facts::Held;
+use log_sweep::is_lawful;
 use std::alloc::Global;
 use tx_laws::lawful;
 use tx_model::lawful_histories_are_small;
 
+/// The history that the entries make after its first one, or the first of them that may not follow those before it. What
+/// holds is kept in maps only where sorting their datoms does not tell that they are lawful.
+pub(crate) fn lawful_history(alloc: Global, entries: Vec<Entry>) -> Result<EntryList, OpenFault>
+    ensures lawful { IfOk result (λ h. (h ≡ first_entry ∷ entries.items) × IsLawful h) }
+    ensures unlawful { IfErr result
+        (λ fault. MatchesFault fault (log_reading (hold entries.items))) }
+{
+    let is_lawful = is_lawful(alloc, &entries)?;
+    if is_lawful {
+        return Ok(with_entries(alloc, entries)?);
+    }
+    judged_one_by_one(alloc, entries)?.into_entries()
+}
+
+/// The history of entries that are known to be lawful.
+fn with_entries(alloc: Global, entries: Vec<Entry>) -> Result<EntryList, Memory>
+    requires { IsLawful (first_entry ∷ entries.items) }
+    ensures { IfOk result (λ h. h ≡ first_entry ∷ entries.items) }
+{
+    lawful_histories_are_counted_by_t();
+    lawful_histories_are_small();
+    let mut history = EntryList::first(alloc)?;
+    for entry in entries {
+        history = history.with(entry)?;
+    }
+    Ok(history)
+}
+
+/// What the entries are, one after another.
+fn judged_one_by_one(alloc: Global, entries: Vec<Entry>) -> Result<Judged, Memory>
+    ensures { IfOk result (IsJudged entries.items) }
+{
+    let mut judged = Judged::first(alloc)?;
+    for entry in entries {
+        judged = judged.with(alloc, entry)?;
+    }
+    Ok(judged)
+}
+
 /// What the entries so far are, after the first one of every history.
 #[derive(Drop)]
-pub(crate) enum Judged {
+enum Judged {
     /// A lawful history, with its schema.
     Lawful { held: Held, schema: Schema },
     /// The first of them that may not follow those before it, and the least law that it breaks. What follows it is
@@ -35,7 +76,7 @@ pub(crate) enum Judged {
 
 impl Judged {
     /// No entry yet.
-    pub(crate) fn first(alloc: Global) -> Result<Judged, Memory>
+    fn first(alloc: Global) -> Result<Judged, Memory>
         ensures { IfOk result (IsJudged []) }
     {
         first_is_lawful();
@@ -46,7 +87,7 @@ impl Judged {
     }
 
     /// With the entry that comes next.
-    pub(crate) fn with(self, alloc: Global, entry: Entry) -> Result<Judged, Memory>
+    fn with(self, alloc: Global, entry: Entry) -> Result<Judged, Memory>
         requires { (entries : List Entry) × IsJudged entries self }
         ensures { IfOk result (λ judged. (entries : List Entry) → IsJudged entries self
             → IsJudged (entries ++ entry ∷ []) judged) }
@@ -58,7 +99,7 @@ impl Judged {
     }
 
     /// The history, where it is lawful.
-    pub(crate) fn into_entries(self) -> Result<EntryList, OpenFault>
+    fn into_entries(self) -> Result<EntryList, OpenFault>
         ensures lawful { IfOk result (λ h. (entries : List Entry) → IsJudged entries self
             → (h ≡ first_entry ∷ entries) × IsLawful h) }
         ensures unlawful { IfErr result (λ fault. (entries : List Entry) → IsJudged entries self

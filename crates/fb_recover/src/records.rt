@@ -1,6 +1,5 @@
 //! Reading the records of a log as a history.
 ghost use Rattle.std.specs.Prelude.{◌≡◌, ◌<◌, ◌+◌, ◌^◌, ◌++◌, [], ◌∷◌, ℕ, List, length, IfOk, IfErr, MatchResult};
-ghost use Rattle.fb_values.specs.declared.facts.Entry.{Entry};
 ghost use Rattle.disk_model.specs.Disk.{IfKnown};
 ghost use Rattle.disk_model.specs.Journal.{log_mark};
 ghost use Rattle.log_model.specs.Log.{LogStands, byte_in_log, log_says};
@@ -9,16 +8,16 @@ ghost use Rattle.disk_log.specs.Records.{IsBehind, EndsWithin};
 ghost use Rattle.disk_log.specs.declared.records.LogRecord.TheVariants.{Misfit};
 ghost use Rattle.fb_recover.specs.Faults.{MatchesFault, IsCause, CountsLog};
 ghost use Rattle.fb_recover.specs.Finding.{IsFound, HaveFound};
-ghost use Rattle.fb_recover.specs.Judging.{IsJudged};
 
 use crate::OpenFault;
-use crate::judging::Judged;
+use crate::judging::lawful_history;
 use disk_log::{LogRecord, next_record};
 use fb_codec::{BytesFault, entry_of};
 use fb_disk::Disk;
 use fb_history::EntryList;
 use fb_journal::{Place, Reading};
 use fb_memory::Memory;
+use fb_values::Entry;
 use log_model::{a_fault_lies_in_its_payload, a_payload_is_its_entrys_bytes};
 use std::alloc::Global;
 
@@ -26,14 +25,14 @@ use std::alloc::Global;
 #[derive(Drop)]
 pub(crate) enum Found {
     /// Each holds an entry.
-    Entries { judged: Judged },
+    Entries { entries: Vec<Entry> },
     /// The first that holds none, and the byte of the file at which its first misfit begins. What the records after it hold
     /// is not read.
     Misfit { nth: u64, at: u64 },
 }
 
 /// The history that the records of a log hold, or what is wrong with the log first. A record that holds no entry is reported
-/// once all records were found, since a fault of the journal after it comes before it.
+/// once all records were found, since a fault of the journal after it comes before it, and the laws are asked after that.
 pub(crate) fn history_of<D: Disk>(
     alloc: Global,
     log: &mut Reading<D>,
@@ -55,27 +54,26 @@ pub(crate) fn history_of<D: Disk>(
         → HasRead D.bytes D.images D.moment D.images_since log_mark disk [] log.old
         → LeavesBegun D.bytes D.images D.moment D.images_since disk (disk_from log.new) }
 {
-    let mut found = Found::none(alloc)?;
+    let mut found = Found::none(alloc);
     let mut payload = Vec::new(alloc);
     while let Some(next) = next_record(alloc, log, &mut payload)? {
         found = found.with(alloc, next, &payload)?;
     }
-    found.into_entries()
+    found.into_history(alloc)
 }
 
 impl Found {
     /// No record yet.
-    fn none(alloc: Global) -> Result<Found, Memory>
-        ensures { IfOk result (HaveFound []) }
+    fn none(alloc: Global) -> Found
+        ensures { HaveFound [] result }
     {
-        let judged = Judged::first(alloc)?;
-        Ok(Found::Entries { judged })
+        let entries = Vec::new(alloc);
+        Found::Entries { entries }
     }
 
     /// With the record that comes next, of whose payload this was read.
     fn with(self, alloc: Global, next: LogRecord, payload: &[u8]) -> Result<Found, Memory>
-        requires within { EndsWithin payload.now next }
-        requires found { (records : List (List ℕ)) × HaveFound records self }
+        requires { EndsWithin payload.now next }
         ensures { IfOk result (λ found. (records : List (List ℕ)) (whole : List ℕ)
             → HaveFound records self → IsBehind records whole payload.now next
             → HaveFound (records ++ whole ∷ []) found) }
@@ -88,14 +86,13 @@ impl Found {
 
     /// With a record whose payload lies at this place.
     fn with_payload(self, alloc: Global, place: Place, payload: &[u8]) -> Result<Found, Memory>
-        requires within { place.at + length payload.now < 2 ^ 64 }
-        requires found { (records : List (List ℕ)) × HaveFound records self }
+        requires { place.at + length payload.now < 2 ^ 64 }
         ensures { IfOk result (λ found. (records : List (List ℕ)) → HaveFound records self
             → place.nth ≡ length records → place.at ≡ byte_in_log records 0
             → HaveFound (records ++ payload.now ∷ []) found) }
     {
         match self {
-            Found::Entries { judged } => found_in(alloc, judged, place, payload),
+            Found::Entries { entries } => found_in(alloc, entries, place, payload),
             Found::Misfit { nth, at } => Ok(Found::Misfit { nth, at }),
         }
     }
@@ -107,7 +104,7 @@ impl Found {
             → HaveFound (records ++ whole ∷ []) result }
     {
         match self {
-            Found::Entries { judged: _judged } => Found::Misfit { nth, at },
+            Found::Entries { entries: _entries } => Found::Misfit { nth, at },
             Found::Misfit {
                 nth: first,
                 at: there,
@@ -119,31 +116,35 @@ impl Found {
     }
 
     /// The history, or what is wrong with the records first.
-    fn into_entries(self) -> Result<EntryList, OpenFault>
+    fn into_history(self, alloc: Global) -> Result<EntryList, OpenFault>
         ensures stands { IfOk result (λ h. (records : List (List ℕ)) → HaveFound records self
             → LogStands records h) }
         ensures fault { IfErr result (λ fault. (records : List (List ℕ)) → HaveFound records self
             → MatchesFault fault (log_says records)) }
     {
         match self {
-            Found::Entries { judged } => judged.into_entries(),
+            Found::Entries { entries } => lawful_history(alloc, entries),
             Found::Misfit { nth, at } => Err(OpenFault::BadLog { nth, at }),
         }
     }
 }
 
 /// The entries with that of a payload, or the payload's first misfit.
-fn found_in(alloc: Global, judged: Judged, place: Place, payload: &[u8]) -> Result<Found, Memory>
-    requires within { place.at + length payload.now < 2 ^ 64 }
-    requires judged { (entries : List Entry) × IsJudged entries judged }
-    ensures { IfOk result (IsFound judged place payload.now) }
+fn found_in(
+    alloc: Global,
+    mut entries: Vec<Entry>,
+    place: Place,
+    payload: &[u8],
+) -> Result<Found, Memory>
+    requires { place.at + length payload.now < 2 ^ 64 }
+    ensures { IfOk result (IsFound entries.items place payload.now) }
 {
     a_payload_is_its_entrys_bytes();
     a_fault_lies_in_its_payload();
     match entry_of(alloc, payload) {
         Ok(entry) => {
-            let judged = judged.with(alloc, entry)?;
-            Ok(Found::Entries { judged })
+            entries.push(entry)?;
+            Ok(Found::Entries { entries })
         }
         Err(BytesFault::At { byte }) => Ok(Found::Misfit {
             nth: place.nth,

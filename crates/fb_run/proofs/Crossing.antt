@@ -43,6 +43,7 @@ use Rattle.fb_conn.proofs.bell.Doorbell.TheSendSync as bell
 use Rattle.fb_log.specs.declared.logs.Log.{Ghosts}
 use Rattle.fb_conn.specs.contracts.seats.Seat as Seat
 use Rattle.fb_conn.specs.contracts.letters.Letter as Letter
+use Rattle.fb_conn.specs.contracts.home.Kept as Kept
 use Rattle.fb_conn.specs.contracts.home.Home as Home
 use Rattle.fb_conn.specs.contracts.conn.Conn as Conn
 use Rattle.conn_desk.specs.contracts.desks.ConnDesk as ConnDesk
@@ -173,8 +174,8 @@ Draft-send = search (sendable, heap.crosses, Snapshot-send, Authors-send) depth 
 Letter-row : IsSend Letter.the_row
 Letter-row = search (sendable, Snapshot-send) depth 20
 
-Home-row : (L R : RattleType) → IsSend L → IsSend (Home.the_row L R)
-Home-row L R log = declared_send (Home.the_type L R) (
+Kept-row : (L : RattleType) → IsSend L → IsSend (Kept.the_row L)
+Kept-row L log = declared_send (Kept.the_type L) (
   Core-send,
   (
     as_row_send (row_field L) log,
@@ -192,11 +193,15 @@ Home-row L R log = declared_send (Home.the_type L R) (
   ),
 )
 
+Home-row : (L R : RattleType) (g : Ghosts L.Denot R.Denot) → IsSend L → IsSend (Home.the_row L R g)
+Home-row L R g log =
+    view_send _ _ _ _ _ (declared_send (Home.TheInside.the_type L R g) (heap.Box-send (Kept.the_row L) (Kept-row L log), tt))
+
 -- the connection is shared, whatever its log, if that may be sent
 pub Conn-sync : (L R : RattleType) (g : Ghosts L.Denot R.Denot) → IsSend L → IsSync (Conn.the_row L R g)
 Conn-sync L R g log =
-    let shared = board.the_sync (Home.the_row L R) Letter.the_row Entry.the_row L unit (homes L R g no_dict no_dict no_dict) mailed letters
-    (Home-row L R log) Letter-row in
+    let shared = board.the_sync (Home.the_row L R g) Letter.the_row Entry.the_row L unit (homes L R g no_dict no_dict no_dict) mailed
+    letters (Home-row L R g log) Letter-row in
     declared_sync (Conn.the_type L R g) (handle.the_sync, (shared, (bell.the_sync, (search sendable, tt))))
 
 Seat-row : IsSend Seat.the_row

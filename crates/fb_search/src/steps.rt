@@ -33,7 +33,8 @@ impl<L: Ledger> Steps<L> {
         Steps { book, share }
     }
 
-    pub(crate) fn tick(&mut self)
+    /// One comparison more.
+    pub fn tick(&mut self)
         ensures { self.new ≡ self.old + 1 }
     {
         self.book.add(&mut self.share, 1);

@@ -1,5 +1,5 @@
 -- The first entries of a lawful history.
-use Rattle.std.proofs.Common.{◌≡◌, ◌∙◌, ℕ, zero, suc, ◌+◌, ◌<◌, ◌≤◌, List, [], ◌∷◌, ◌++◌, length, take, refl, sym, ap, subst, arith, Some}
+use Rattle.std.proofs.Common.{◌≡◌, ◌∙◌, ℕ, zero, suc, ◌+◌, ◌<◌, ◌≤◌, List, [], ◌∷◌, ◌++◌, length, take, min, refl, sym, ap, subst, arith, Some}
 use Rattle.std.proofs.Common.{append_assoc, append-nil}
 use Rattle.std.specs.List.{slice_get}
 use Rattle.std.proofs.lemmas.List.{length-take}
@@ -104,3 +104,10 @@ whole_of h c schema older lawful stand covered stands has now_is = record {
   held_is = coverage_of schema (upto h c) older.held stands has;
   now_is = now_is;
 }
+
+-- a history has more entries than the t of any of its beginnings
+pub begins_within : (h older : List Entry) → IsLawful older → upto h (basis older) ≡ older → basis older < length h
+begins_within h older lawful begins =
+    let counted = IsLawful-length older lawful in
+    let taken : min (basis older + 1) (length h) ≡ basis older + 1 = sym (length-take (basis older + 1) h) ∙ ap length begins ∙ counted in
+    omega (arith, taken)

@@ -75,12 +75,6 @@ module _ (k : SnapshotModel) (stands : Stands k) (order : Order) where
       let is = from_live k stands Eavt d there in
       (is.0.is_said, elim is.1 [ inl after ↦ after | inr bare ↦ absurd (true≢false bare) ])
 
-  later_eavt : IsLater older k.live.eavt
-  later_eavt x y x_in y_in mate =
-      let was = from_older k stands order x x_in in
-      let is = later_than y y_in in
-      omega (arith, was.1, is.1)
-
   later_mate : (x y : Datom) → Contains older x → Contains live y → is_mate x y ≡ true → k.covered < y.t
   later_mate x y x_in y_in mate =
       elim (from_live k stands order y y_in).1 [
@@ -218,11 +212,10 @@ module _ (k : SnapshotModel) (stands : Stands k) (order : Order) where
   held_beside_order = subst (λ (l : List Datom). AreBeside Held order l k.live) (sym (stands.now_is order)) (record {
     rises = rising-standing order older pair.older_rises;
     pair = pair_by (outlives gone);
-    later = λ x y x_in y_in mate. later_eavt x y (standing_member older x x_in) y_in mate;
   })
 
   said_beside_order : AreBeside Said order older k.live
-  said_beside_order = record { rises = pair.older_rises; pair = pair; later = later_eavt }
+  said_beside_order = record { rises = pair.older_rises; pair = pair }
 
 -- in each order but AVET that is all that stands
 pub present_is : (k : SnapshotModel) (order : Order) → Stands k → (order ≡ Avet → ⊥)

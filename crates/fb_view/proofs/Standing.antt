@@ -5,8 +5,11 @@ use Rattle.std.proofs.lemmas.Bool.{true≢false, leb-true, le-leb, and_parts}
 use Rattle.fb_values.specs.declared.facts.Datom.{Datom}
 use Rattle.fb_values.specs.declared.facts.Entry.{Entry}
 use Rattle.fb_values.specs.declared.indexes.Order.{Order}
+use Rattle.fb_values.specs.declared.indexes.Order.TheVariants.{Eavt}
 use Rattle.fb_covers.specs.Coverage.{Coverage}
 use Rattle.fb_values.specs.Lists.{list_in}
+use Rattle.fb_values.specs.Rising.{IsRising}
+use Rattle.fb_values.proofs.Rising.{rising_from}
 use Rattle.fb_model.specs.Rising.{IsRisingListOf}
 use Rattle.fb_model.specs.History.{basis, said, upto}
 use Rattle.fb_model.specs.Facts.{facts}
@@ -26,6 +29,10 @@ use Rattle.fb_view.specs.declared.growth.Older.{Older}
 use Rattle.fb_view.specs.declared.growth.Recent.{Recent}
 use Rattle.seg_tree.specs.Indexes.{trees_of}
 use Rattle.fb_view.specs.SnapshotModel.{model_snapshot, Stands, AreWhole, Follows}
+
+-- an entry's datoms rise
+pub datoms_rise : (h : List Entry) (entry : Entry) → IsLawfulAfter h entry → IsRising Eavt entry.datoms
+datoms_rise h entry next = rising_from Eavt entry.datoms (and_parts _ _ (and_parts _ _ next.datoms_in_order).0).1
 
 -- no datom is later than the last entry
 pub not_later : (h : List Entry) (d : Datom) → IsLawful h → Contains (said h) d → d.t ≤ basis h

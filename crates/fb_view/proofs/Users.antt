@@ -1,4 +1,4 @@
--- The greatest user number of a history stands at the ends of the three lists of EAVT.
+-- The greatest user number of a history stands at the ends of the two lists of EAVT.
 use Rattle.std.proofs.Common.{◌≡◌, ◌∙◌, ℕ, zero, suc, ◌-◌, ◌<◌, ◌≤◌, inl, inr, List, [], ◌∷◌, ◌++◌, length, refl, sym, ap, subst, arith}
 use Rattle.std.proofs.Common.{Option, Some, None, max}
 use Rattle.std.specs.Prelude.{Contains, map}
@@ -9,11 +9,6 @@ use Rattle.fb_values.specs.declared.indexes.Order.TheVariants.{Eavt}
 use Rattle.fb_values.specs.Rising.{IsRising}
 use Rattle.fb_numbers.specs.Numbers.{user_number}
 use Rattle.fb_model.specs.History.{said, users_in, users_issued}
-use Rattle.fb_model.specs.Facts.{standing}
-use Rattle.fb_model.proofs.Members.{standing_member}
-use Rattle.live_index.specs.Halves.{withdrawn}
-use Rattle.live_index.proofs.Halves.{one_of_both, withdrawn_member, rising-withdrawn}
-use Rattle.live_index.proofs.Together.{rising-standing}
 use Rattle.live_index.proofs.Members.{contains-cons, contains_head, contains_tail, contains_none}
 use Rattle.seg_tree.specs.Chunks.{joined}
 use Rattle.seg_tree.specs.Nodes.{LeafNode, DirectoryNode, leaf_datoms, tree_datoms}
@@ -155,30 +150,14 @@ pub at_last : {X Y : Type 0} (f : X → Y) (xs : List X) (ys : List Y) (x : X) (
 at_last {X} {Y} f xs ys x y same read is =
     subst (λ (l : List Y). slice_get l (length l - 1) ≡ Some y) same (get_last_map f xs x (sym read) ∙ ap Some (sym is))
 
--- ---- the two halves of a live list
+-- ---- the greatest of both
 
-users_halves : (ds : List Datom) → users_in ds ≡ max (users_in (standing ds)) (users_in (withdrawn ds))
-users_halves ds =
-    let low = users_bound ds (max (users_in (standing ds)) (users_in (withdrawn ds))) (λ d there. elim (one_of_both ds d there) [
-      | inl stands ↦ let at = user_member (standing ds) d stands in omega (arith, at)
-      | inr gone ↦ let at = user_member (withdrawn ds) d gone in omega (arith, at)
-    ]) in
-    let holding = users_bound (standing ds) (users_in ds) (λ d there. user_member ds d (standing_member ds d there)) in
-    let past = users_bound (withdrawn ds) (users_in ds) (λ d there. user_member ds d (withdrawn_member ds d there)) in
-    omega (arith, low, holding, past)
-
-pub users_answer : (k : SnapshotModel) (stands : Stands k) (x y z : ℕ)
+pub users_answer : (k : SnapshotModel) (stands : Stands k) (x y : ℕ)
     → x ≡ user_at (slice_get (tree_datoms k.roots.eavt) (length (tree_datoms k.roots.eavt) - 1))
-    → y ≡ user_at (slice_get (standing k.live.eavt) (length (standing k.live.eavt) - 1))
-    → z ≡ user_at (slice_get (withdrawn k.live.eavt) (length (withdrawn k.live.eavt) - 1)) → max (max x y) z ≡ users_issued k.entries
-users_answer k stands x y z is_x is_y is_z =
-    let rises = (pair_stands k stands Eavt).live_rises in
-    let older = users_last (tree_datoms k.roots.eavt) (pair_stands k stands Eavt).older_rises in
-    let holding = users_last (standing k.live.eavt) (rising-standing Eavt k.live.eavt rises) in
-    let past = users_last (withdrawn k.live.eavt) (rising-withdrawn Eavt k.live.eavt rises) in
-    let live = users_halves k.live.eavt in
+    → y ≡ user_at (slice_get k.live.eavt (length k.live.eavt - 1)) → max x y ≡ users_issued k.entries
+users_answer k stands x y is_x is_y =
+    let pair = pair_stands k stands Eavt in
     let all = users_stand k stands in
-    let left : x ≡ users_in (tree_datoms k.roots.eavt) = is_x ∙ sym older in
-    let middle : y ≡ users_in (standing k.live.eavt) = is_y ∙ sym holding in
-    let right : z ≡ users_in (withdrawn k.live.eavt) = is_z ∙ sym past in
-    omega (arith, left, middle, right, live, all)
+    let older : x ≡ users_in (tree_datoms k.roots.eavt) = is_x ∙ sym (users_last (tree_datoms k.roots.eavt) pair.older_rises) in
+    let live : y ≡ users_in k.live.eavt = is_y ∙ sym (users_last k.live.eavt pair.live_rises) in
+    omega (arith, older, live, all)

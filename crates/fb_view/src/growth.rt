@@ -1,5 +1,5 @@
 //! What grows with each entry, the schema and the live lists, beside trees that stay.
-ghost use Rattle.std.specs.Prelude.{◌≡◌, ◌++◌, ◌∷◌, ◌<◌, [], List, IfOk, length};
+ghost use Rattle.std.specs.Prelude.{◌≡◌, ◌++◌, ◌∷◌, ◌<◌, ◌≤◌, [], List, IfOk, length, take};
 ghost use Rattle.fb_values.specs.declared.facts.Entry.{Entry};
 ghost use Rattle.fb_values.specs.declared.indexes.Order.{Order};
 ghost use Rattle.fb_values.specs.declared.indexes.Order.TheVariants.{Aevt};
@@ -102,6 +102,34 @@ impl Recent {
     {
         let schema = self.schema.of_entry(entry)?;
         let live = self.grown(alloc, older, entry, &schema)?;
+        Ok(Recent { schema, live })
+    }
+
+    /// With the entries from this one on, one after the other, where the trees stay.
+    pub fn with_each(
+        &self,
+        alloc: Global,
+        older: &Older,
+        entries: &EntryList,
+        from: u32,
+    ) -> Result<Recent, Memory>
+        requires lawful { IsLawful entries.now }
+        requires from { (0 < from) × (from ≤ length entries.now) }
+        requires stands { Stands (model_snapshot (take from entries.now) self.now older.now) }
+        ensures { IfOk result (λ new. Stands (model_snapshot entries.now new older.now)) }
+    {
+        let mut recent = self.share()?;
+        for t in from..entries.len() {
+            recent = recent.with(alloc, older, entries.at(t))?;
+        }
+        Ok(recent)
+    }
+
+    fn share(&self) -> Result<Recent, Memory>
+        ensures { IfOk result (λ new. new ≡ self.now) }
+    {
+        let schema = self.schema.share()?;
+        let live = self.live.share()?;
         Ok(Recent { schema, live })
     }
 

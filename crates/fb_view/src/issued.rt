@@ -9,8 +9,7 @@ ghost use Rattle.fb_view.specs.SnapshotModel.{Stands};
 
 use crate::snapshot::Snapshot;
 use fb_numbers::user_number;
-use fb_values::{Datom, Order};
-use live_index::{Holding, Past};
+use fb_values::Datom;
 use seg_tree::Tree;
 
 impl Snapshot {
@@ -20,9 +19,8 @@ impl Snapshot {
         ensures stands { Stands self.now }
     {
         let older = user_of(last_older(&self.roots().eavt));
-        let holding = user_of(last_holding(self.live().holding()));
-        let past = user_of(last_past(self.live().past()));
-        older.max(holding).max(past)
+        let live = user_of(self.live().last());
+        older.max(live)
     }
 }
 
@@ -43,18 +41,4 @@ fn last_older(tree: &Tree) -> Option<&Datom>
     let directory = tree.directories().last()?;
     let leaf = directory.leaves().last()?;
     leaf.datoms().last()
-}
-
-fn last_holding(holding: &Holding) -> Option<&Datom>
-    ensures { option_copied result ≡ slice_get holding.now.eavt (length holding.now.eavt - 1) }
-{
-    let order = Order::Eavt;
-    holding.at(order, holding.len(order).saturating_sub(1))
-}
-
-fn last_past(past: &Past) -> Option<&Datom>
-    ensures { option_copied result ≡ slice_get past.now.eavt (length past.now.eavt - 1) }
-{
-    let order = Order::Eavt;
-    past.at(order, past.len(order).saturating_sub(1))
 }

@@ -73,6 +73,30 @@ impl Snapshot {
         )
     }
 
+    /// The entries of a later one over the same trees. Only what came since is added.
+    pub fn caught_up(&self, latest: &Snapshot) -> Result<Snapshot, Memory>
+        requires begins { upto latest.now.entries (basis self.now.entries) ≡ self.now.entries }
+        ensures entries { IfOk result (λ s. s.entries ≡ latest.now.entries) }
+        ensures roots { IfOk result (λ s. s.roots ≡ self.now.roots) }
+        ensures covered { IfOk result (λ s. s.covered ≡ self.now.covered) }
+        ensures stands { IfOk result (λ s. Stands s) }
+    {
+        let alloc = self.alloc();
+        let parts = self.parts();
+        let older = parts.older.share()?;
+        let entries = latest.entries().share()?;
+        let from = parts.entries.len();
+        let recent = parts.recent.with_each(alloc, older.get(), &entries, from)?;
+        Snapshot::of(
+            alloc,
+            Parts {
+                entries,
+                recent,
+                older,
+            },
+        )
+    }
+
     /// The same entries over trees that were made of those of an older snapshot. What came since is live, of the older
     /// one's schema on.
     pub fn rebased(&self, begin: &Snapshot, roots: Roots) -> Result<Snapshot, Memory>

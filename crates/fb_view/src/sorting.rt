@@ -54,10 +54,9 @@ fn copied(alloc: Global, live: &Live, order: Order) -> Result<Vec<Datom>, Memory
     ensures { IfOk result (λ list. list.items ≡ list_in live.now order) }
 {
     let mut list = Vec::new(alloc);
-    let mut next = live.first(order);
-    while let Some((datom, at)) = next {
+    let mut walk = live.said(order);
+    while let Some(datom) = walk.next() {
         datom.copy_into(&mut list)?;
-        next = live.next(order, at);
     }
     Ok(list)
 }

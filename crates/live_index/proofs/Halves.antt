@@ -23,7 +23,7 @@ use Rattle.fb_model.proofs.Times.{same_keys}
 use Rattle.fb_model.proofs.Triples.{is_of-true}
 use Rattle.fb_model.proofs.InOrder.{OneForEachKey, in_order_has, one_rising_list}
 use Rattle.live_index.specs.Growth.{HasNoTwins, is_held, takes, IsGrown}
-use Rattle.live_index.specs.Ending.{is_mate, MayEnd, ends, are_ending, withdraws, IsRetracted}
+use Rattle.live_index.specs.Ending.{is_mate, MayEndAll, ends, are_ending, withdraws, IsRetracted}
 use Rattle.live_index.specs.Halves.{IsPair, both_lists, merged, withdrawn, AreHalves, MayFollow}
 use Rattle.live_index.proofs.Members.{contains-cons, contains_head, contains_tail, contains_none}
 use Rattle.live_index.proofs.Growing.{Gains, single_part}
@@ -170,7 +170,7 @@ ending_one c order ds x some =
 module _ (order : Order) (c : Coverage) (holding past ds h p new : List Datom) (halves : AreHalves order holding past)
     (follow : MayFollow (merged order holding past) ds) (held : All (λ d. is_held c order d ≡ true) (merged order holding past))
     (retracted : IsRetracted order c holding past ds h p) (gains : Gains h (λ d. Contains ds d × (takes c order d ≡ true)) new)
-    (rises : IsRising order new) where
+    (rises : IsRising order new) (gone_rises : IsRising order p) where
   old : List Datom
   old = merged order holding past
 
@@ -264,7 +264,7 @@ module _ (order : Order) (c : Coverage) (holding past ds h p new : List Datom) (
       added_false false is = refl
 
   pub pair_new : IsPair order new p
-  pair_new = record { older_rises = rises; live_rises = retracted.gone_rises; apart = apart_new; single = single_new }
+  pair_new = record { older_rises = rises; live_rises = gone_rises; apart = apart_new; single = single_new }
 
   member_new : (x : Datom) → Contains (merged order new p) x → Contains (merged order holding past) x ⊎ IsTaken x
   member_new x there = from_new x (from_merged order new p x there)
@@ -383,23 +383,14 @@ both_at holding past Aevt = refl
 both_at holding past Avet = refl
 both_at holding past Vaet = refl
 
--- the halves and the datoms of an entry are of the list and of the entry
-pub single_of : (order : Order) (holding past ds : List Datom) → AreHalves order holding past → MayFollow (merged order holding past) ds
-    → HasNoTwins (holding ++ past ++ ds)
-single_of order holding past ds halves follow =
-    single_part (holding ++ past ++ ds) (merged order holding past ++ ds)
-    (λ x there. elim (Contains-append_cases (holding ++ past) ds x there) [
-      | inl older ↦
-          Contains-append_left (merged order holding past) ds x
-          (into_merged order holding past x halves.pair.single (Contains-append_cases holding past x older))
-      | inr now ↦ Contains-append_right (merged order holding past) ds x now
-    ]) follow.single
-
--- a datom of the entry ends at most one fact, which is earlier
+-- a datom of the entry ends at most one fact, which is earlier, and is not in the past
 pub may_end : (order : Order) (holding past ds : List Datom) → AreHalves order holding past → MayFollow (merged order holding past) ds
-    → (d : Datom) → Contains ds d → MayEnd holding d
+    → MayEndAll holding past ds
 may_end order holding past ds halves follow d there =
     record {
+      apart = halves.pair.apart;
+      fresh = λ was.
+          let late = follow.later d d (into_merged order holding past d halves.pair.single (inr was)) there (of_itself d) in omega arith;
       earlier = λ x holds mate. follow.later x d (in_all x holds) there mate;
       one = λ x y x_in y_in mate_x mate_y.
           let mates = of_through d x y mate_x mate_y in
@@ -431,93 +422,6 @@ halves_none order holding past none none_past =
       };
       stands = rw (none, none_past) refl;
     }
-
-module _ (c : Coverage) (holding past : Lists)
-    (ds : List Datom) (h p new : Lists) (halves : (order : Order) → AreHalves order (list_in holding order) (list_in past order))
-    (follow : (order : Order) → MayFollow (list_in (both_lists holding past) order) ds)
-    (held : (order : Order) → All (λ d. is_held c order d ≡ true) (list_in (both_lists holding past) order))
-    (retracted : (order : Order) → IsRetracted order c (list_in holding order) (list_in past order) ds (list_in h order) (list_in p order))
-    (gains : (order : Order) → Gains (list_in h order) (λ d. Contains ds d × (takes c order d ≡ true)) (list_in new order))
-    (rises : (order : Order) → IsRising order (list_in new order)) where
-  follow_at : (order : Order) → MayFollow (merged order (list_in holding order) (list_in past order)) ds
-  follow_at order = subst (λ (l : List Datom). MayFollow l ds) (both_at holding past order) (follow order)
-
-  held_at : (order : Order) → All (λ d. is_held c order d ≡ true) (merged order (list_in holding order) (list_in past order))
-  held_at order = subst (λ (l : List Datom). All (λ d. is_held c order d ≡ true) l) (both_at holding past order) (held order)
-
-  pub halves_all : (order : Order) → AreHalves order (list_in new order) (list_in p order)
-  halves_all order =
-      halves_new order c (list_in holding order) (list_in past order) ds (list_in h order) (list_in p order) (list_in new order)
-      (halves order) (follow_at order) (held_at order) (retracted order) (gains order) (rises order)
-
-  pub grown_all : (order : Order) → IsGrown order c (list_in (both_lists holding past) order) [] ds (list_in (both_lists new p) order)
-  grown_all order =
-      subst (λ (l : List Datom). IsGrown order c l [] ds (list_in (both_lists new p) order)) (sym (both_at holding past order))
-      (subst (λ (l : List Datom). IsGrown order c (merged order (list_in holding order) (list_in past order)) [] ds l)
-      (sym (both_at new p order))
-      (grown_new order c (list_in holding order) (list_in past order) ds (list_in h order) (list_in p order) (list_in new order)
-      (halves order) (follow_at order) (held_at order) (retracted order) (gains order) (rises order)))
-
--- the halves of a live index, copies of them, what the retractions make of these, and what the additions make of that
-pub record GrowsByEntry (c : Coverage) (holding past now : Lists) (ds : List Datom) (copy past_copy h p new made : Lists) : Type 0 where
-  pub is : both_lists holding past ≡ now
-  pub halves : (order : Order) → AreHalves order (list_in holding order) (list_in past order)
-  pub follow : (order : Order) → MayFollow (list_in now order) ds
-  pub held : (order : Order) → All (λ d. is_held c order d ≡ true) (list_in now order)
-  pub copy_is : copy ≡ holding
-  pub past_copy_is : past_copy ≡ past
-  pub retracted : (order : Order)
-      → IsRetracted order c (list_in copy order) (list_in past_copy order) ds (list_in h order) (list_in p order)
-  pub gains : (order : Order) → Gains (list_in h order) (λ d. Contains ds d × (takes c order d ≡ true)) (list_in new order)
-  pub rises : (order : Order) → IsRising order (list_in new order)
-  pub made_is : made ≡ new
-
-module _ (c : Coverage) (holding past now : Lists) (ds : List Datom) (copy past_copy h p new made : Lists)
-    (grows : GrowsByEntry c holding past now ds copy past_copy h p new made) where
-  follow_both : (order : Order) → MayFollow (list_in (both_lists holding past) order) ds
-  follow_both order = subst (λ (ls : Lists). MayFollow (list_in ls order) ds) (sym grows.is) (grows.follow order)
-
-  held_both : (order : Order) → All (λ d. is_held c order d ≡ true) (list_in (both_lists holding past) order)
-  held_both order = subst (λ (ls : Lists). All (λ d. is_held c order d ≡ true) (list_in ls order)) (sym grows.is) (grows.held order)
-
-  retracted_both : (order : Order) → IsRetracted order c (list_in holding order) (list_in past order) ds (list_in h order) (list_in p order)
-  retracted_both order =
-      subst (λ (ls : Lists). IsRetracted order c (list_in holding order) (list_in ls order) ds (list_in h order) (list_in p order))
-      grows.past_copy_is
-      (subst (λ (ls : Lists). IsRetracted order c (list_in ls order) (list_in past_copy order) ds (list_in h order) (list_in p order))
-      grows.copy_is (grows.retracted order))
-
-  pub made_halves : (order : Order) → AreHalves order (list_in made order) (list_in p order)
-  made_halves order =
-      subst (λ (ls : Lists). AreHalves order (list_in ls order) (list_in p order)) (sym grows.made_is)
-      (halves_all c holding past ds h p new grows.halves follow_both held_both retracted_both grows.gains grows.rises order)
-
-  pub made_grown : (order : Order) → IsGrown order c (list_in now order) [] ds (list_in (both_lists made p) order)
-  made_grown order =
-      subst (λ (ls : Lists). IsGrown order c (list_in now order) [] ds (list_in (both_lists ls p) order)) (sym grows.made_is)
-      (subst (λ (ls : Lists). IsGrown order c (list_in ls order) [] ds (list_in (both_lists new p) order)) grows.is
-      (grown_all c holding past ds h p new grows.halves follow_both held_both retracted_both grows.gains grows.rises order))
-
--- what the copies owe before the entry
-module _ (holding past now : Lists) (ds : List Datom) (copy past_copy : Lists)
-    (is : both_lists holding past ≡ now) (halves : (order : Order) → AreHalves order (list_in holding order) (list_in past order))
-    (follow : (order : Order) → MayFollow (list_in now order) ds) (copy_is : copy ≡ holding) (past_copy_is : past_copy ≡ past)
-    (order : Order) where
-  follow_merged : MayFollow (merged order (list_in holding order) (list_in past order)) ds
-  follow_merged =
-      subst (λ (l : List Datom). MayFollow l ds) (both_at holding past order)
-      (subst (λ (ls : Lists). MayFollow (list_in ls order) ds) (sym is) (follow order))
-
-  pub single_copies : HasNoTwins (list_in copy order ++ list_in past_copy order ++ ds)
-  single_copies =
-      subst (λ (ls : Lists). HasNoTwins (list_in copy order ++ list_in ls order ++ ds)) (sym past_copy_is)
-      (subst (λ (ls : Lists). HasNoTwins (list_in ls order ++ list_in past order ++ ds)) (sym copy_is)
-      (single_of order (list_in holding order) (list_in past order) ds (halves order) follow_merged))
-
-  pub may_end_copy : (d : Datom) → Contains ds d → MayEnd (list_in copy order) d
-  may_end_copy d there =
-      subst (λ (ls : Lists). MayEnd (list_in ls order) d) (sym copy_is)
-      (may_end order (list_in holding order) (list_in past order) ds (halves order) follow_merged d there)
 
 -- ---- any rising list has two halves
 

@@ -1,29 +1,37 @@
 -- What an order's two lists are after one retraction, and after some.
-use Rattle.std.proofs.Common.{◌≡◌, ◌∙◌, ℕ, ◌+◌, ◌<◌, length, take, get_or, ◌⊎◌, inl, inr, Bool, true, false, not, ◌&&◌, ◌||◌, List, [], ◌∷◌}
-use Rattle.std.proofs.Common.{◌++◌, refl, sym, ap, subst, Option, Some, None}
+use Rattle.std.proofs.Common.{◌≡◌, ◌∙◌, ℕ, zero, suc, ◌+◌, ◌<◌, length, take, get_or, ◌⊎◌, inl, inr, Bool, true, false, not, ◌&&◌, ◌||◌, List, []}
+use Rattle.std.proofs.Common.{◌∷◌, ◌++◌, refl, sym, ap, subst, arith}
 use Rattle.std.specs.Prelude.{Contains, ◌↔◌}
-use Rattle.std.proofs.lemmas.Bool.{true≢false}
+use Rattle.std.specs.List.{list_any}
+use Rattle.std.specs.Cmp.{tied_itself}
+use Rattle.std.specs.Ordering.{is_eq}
+use Rattle.std.specs.declared.cmp.Ordering.{Ordering}
+use Rattle.std.specs.declared.cmp.Ordering.TheVariants.{Less, Equal, Greater}
+use Rattle.std.proofs.lemmas.Bool.{cases_Bool, true≢false, and_parts, not-true}
 use Rattle.std.proofs.lemmas.List.{take_more, get_or_default}
 use Rattle.std.proofs.lemmas.List.Folds.{list_any-append}
 use Rattle.std.proofs.lemmas.List.Elements.{Contains-append_left, Contains-append_right, Contains-append_cases}
 use Rattle.fb_values.specs.declared.facts.Datom.{Datom}
 use Rattle.fb_values.specs.declared.indexes.Order.{Order}
+use Rattle.fb_values.specs.Orders.{key_cmp}
+use Rattle.fb_values.specs.OrderLaws.{key_cmp_total}
 use Rattle.fb_values.specs.Rising.{IsRising}
 use Rattle.fb_covers.specs.Coverage.{Coverage}
-use Rattle.live_index.specs.Growth.{HasNoTwins, is_held, with_one}
-use Rattle.live_index.specs.Ending.{is_mate, IsEnded, MayEnd, ends, are_ending, withdraws, with_some, IsRetracted}
-use Rattle.live_index.proofs.Members.{contains-cons, contains_head, contains_none}
-use Rattle.live_index.proofs.Growing.{Gains, from_take, single_part}
-use Rattle.live_index.proofs.Taking.{one-rising, one-gains}
+use Rattle.fb_model.specs.Rising.{put_in_order}
+use Rattle.fb_model.proofs.Members.{any_member, some_member}
+use Rattle.live_runs.specs.Changed.{without}
+use Rattle.live_index.specs.Growth.{is_held}
+use Rattle.live_index.specs.Ending.{is_mate, IsEnded, MayEnd, MayEndAll, ends, are_ending, withdraws, IsRetracted}
+use Rattle.live_index.proofs.Members.{contains-cons, contains_head, contains_none, from_filter, into_filter}
+use Rattle.live_index.proofs.Growing.{from_take}
+use Rattle.live_index.proofs.Taking.{AreOneIfEqual, put-gains}
+use Rattle.live_index.proofs.Together.{before_member, of_itself}
 
 -- ---- none
 
-pub retracted-none : (order : Order) (c : Coverage) (holding past : List Datom) → IsRising order holding → IsRising order past
-    → IsRetracted order c holding past [] holding past
-retracted-none order c holding past rising past_rises =
+pub retracted-none : (order : Order) (c : Coverage) (holding past : List Datom) → IsRetracted order c holding past [] holding past
+retracted-none order c holding past =
     record {
-      new_rises = rising;
-      gone_rises = past_rises;
       new_is = λ x. (λ there. (there, refl), λ given. given.0);
       gone_is = λ x. (
         λ there. inl (inl there),
@@ -37,144 +45,153 @@ retracted-none order c holding past rising past_rises =
       );
     }
 
--- ---- a datom that is no retraction of the order
+-- ---- datoms of which none is a retraction of the order
 
-nothing_ends : (r h m : Bool) → (r && h) ≡ false → ((r && (h && m)) || false) ≡ false
-nothing_ends false h m none = refl
-nothing_ends true false m none = refl
-nothing_ends true true m none = absurd (true≢false none)
-
-pub retracted-kept : (order : Order) (c : Coverage) (holding past : List Datom) (d : Datom) → IsRising order holding → IsRising order past
-    → withdraws c order d ≡ false → IsRetracted order c holding past (d ∷ []) holding past
-retracted-kept order c holding past d rising past_rises stays =
+pub retracted-kept : (order : Order) (c : Coverage) (holding past ds : List Datom)
+    → ((d : Datom) → Contains ds d → withdraws c order d ≡ false) → IsRetracted order c holding past ds holding past
+retracted-kept order c holding past ds stay =
     record {
-      new_rises = rising;
-      gone_rises = past_rises;
-      new_is = λ x. (λ there. (there, none x), λ given. given.0);
+      new_is = λ x. (λ there. (there, none x (cases_Bool (are_ending c order ds x))), λ given. given.0);
       gone_is = λ x. (
         λ there. inl (inl there),
         λ given. elim given [
           | inl older ↦ elim older [
             | inl there ↦ there
-            | inr ended ↦ absurd (true≢false (sym ended.1 ∙ none x))
+            | inr ended ↦ absurd (true≢false (sym ended.1 ∙ none x (cases_Bool (are_ending c order ds x))))
           ]
-          | inr now ↦ absurd (true≢false (sym now.1 ∙ ap (withdraws c order) (sym (one x now.0)) ∙ stays))
+          | inr now ↦ absurd (true≢false (sym now.1 ∙ stay x now.0))
         ],
       );
     }
   where
-    none : (x : Datom) → are_ending c order (d ∷ []) x ≡ false
-    none x = nothing_ends (not d.added) (is_held c order d) (is_mate d x) stays
+    nothing_ends : (r h m : Bool) → (r && h) ≡ false → (r && (h && m)) ≡ true → ⊥
+    nothing_ends false h m none is = true≢false (sym is)
+    nothing_ends true false m none is = true≢false (sym is)
+    nothing_ends true true m none is = true≢false none
 
-    one : (x : Datom) → Contains (d ∷ []) x → d ≡ x
-    one x there = elim (contains-cons d [] x there) [ inl same ↦ same | inr behind ↦ absurd (contains_none x behind) ]
+    none : (x : Datom) → (are_ending c order ds x ≡ true) ⊎ (are_ending c order ds x ≡ false) → are_ending c order ds x ≡ false
+    none x (inr is) = is
+    none x (inl some) =
+        let found = some_member (λ d. ends c order d x) ds some in
+        absurd (nothing_ends (not found.0.added) (is_held c order found.0) (is_mate found.0 x) (stay found.0 found.1) found.2)
+
+-- without retractions
+pub all_added : (c : Coverage) (order : Order) (ds : List Datom) → list_any (λ d. not d.added) ds ≡ false → (d : Datom) → Contains ds d
+    → withdraws c order d ≡ false
+all_added c order ds none d there = go (cases_Bool (withdraws c order d))
+  where
+    go : (withdraws c order d ≡ true) ⊎ (withdraws c order d ≡ false) → withdraws c order d ≡ false
+    go (inr is) = is
+    go (inl some) =
+        absurd (true≢false (sym (any_member (λ x. not x.added) ds d there (and_parts (not d.added) (is_held c order d) some).0) ∙ none))
+
+-- ---- what a retraction ends
+
+pub ended-none : (d : Datom) (holding past : List Datom) → ((x : Datom) → Contains holding x → is_mate d x ≡ false)
+    → IsEnded d holding past holding past
+ended-none d holding past none =
+    record {
+      new_is = λ x. (λ there. (there, none x there), λ given. given.0);
+      gone_is = λ x. (
+        inl,
+        λ given. elim given [
+          | inl was ↦ was
+          | inr ended ↦ absurd (true≢false (sym ended.1 ∙ none x ended.0))
+        ],
+      );
+    }
+
+eq_is : (o : Ordering) → is_eq o ≡ true → o ≡ Equal
+eq_is Less is = absurd (true≢false (sym is))
+eq_is Equal is = refl
+eq_is Greater is = absurd (true≢false (sym is))
+
+pub ended-moved : (order : Order) (d fact : Datom) (holding past : List Datom) → IsRising order past → MayEnd holding past d
+    → Contains holding fact → is_mate d fact ≡ true → AreOneIfEqual order fact holding → AreOneIfEqual order fact past
+    → IsEnded d holding past (without order fact holding) (put_in_order order fact past)
+ended-moved order d fact holding past past_rises may in_it mate one one_past =
+    record { new_is = λ x. (from x, λ given. into x given.0 given.1); gone_is = gone }
+  where
+    other : Datom → Bool
+    other x = not (is_eq (key_cmp order fact x))
+
+    from : (x : Datom) → Contains (without order fact holding) x → Contains holding x × (is_mate d x ≡ false)
+    from x there =
+        let at = from_filter (λ y. not (is_eq (key_cmp order fact y))) holding x there in
+        (at.0, go (cases_Bool (is_mate d x)) at.0 at.1)
+      where
+        go : (is_mate d x ≡ true) ⊎ (is_mate d x ≡ false) → Contains holding x → not (is_eq (key_cmp order fact x)) ≡ true
+            → is_mate d x ≡ false
+        go (inr is) inside apart = is
+        go (inl also) inside apart =
+            let same : fact ≡ x = may.one fact x in_it inside mate also in
+            let tied : key_cmp order fact x ≡ Equal =
+            subst (λ (y : Datom). key_cmp order fact y ≡ Equal) same (tied_itself (key_cmp_total order) fact) in
+            absurd (true≢false (sym (ap is_eq tied) ∙ not-true (is_eq (key_cmp order fact x)) apart))
+
+    into : (x : Datom) → Contains holding x → is_mate d x ≡ false → Contains (without order fact holding) x
+    into x inside not_mate =
+        into_filter (λ y. not (is_eq (key_cmp order fact y))) holding x inside (elim (cases_Bool (is_eq (key_cmp order fact x))) [
+          | inl equal ↦
+              let same : fact ≡ x = one x inside (eq_is (key_cmp order fact x) equal) in
+              absurd (true≢false (sym (subst (λ (y : Datom). is_mate d y ≡ true) same mate) ∙ not_mate))
+          | inr apart ↦ ap not apart
+        ])
+
+    gone : (x : Datom) → Contains (put_in_order order fact past) x ↔ (Contains past x ⊎ (Contains holding x × (is_mate d x ≡ true)))
+    gone x =
+        let gains = put-gains order past fact (λ y. Unit {0}) past_rises one_past tt x in (
+          λ there. elim (gains.0 there) [
+            | inl was ↦ inl was
+            | inr now ↦ inr (subst (Contains holding) now.0 in_it, subst (λ (y : Datom). is_mate d y ≡ true) now.0 mate)
+          ],
+          λ given. gains.1 (elim given [
+            | inl was ↦ inl was
+            | inr ended ↦ inr (may.one fact x in_it ended.0 mate ended.1, tt)
+          ]),
+        )
 
 -- ---- a retraction
 
-pub some-rising : (order : Order) (ds : List Datom) (o : Option Datom) → IsRising order ds → IsRising order (with_some order ds o)
-some-rising order ds None rising = rising
-some-rising order ds (Some d) rising = one-rising order ds d rising
+pub retracted-one : (order : Order) (c : Coverage) (holding past new gone : List Datom) (d : Datom) → withdraws c order d ≡ true
+    → IsEnded d holding past new gone → IsRising order gone → AreOneIfEqual order d gone
+    → IsRetracted order c holding past (d ∷ []) new (put_in_order order d gone)
+retracted-one order c holding past new gone d takes ended gone_rises one =
+    record {
+      new_is = λ x. (
+        λ there. let is = (ended.new_is x).0 there in (is.0, ending_is x ∙ is.1),
+        λ given. (ended.new_is x).1 (given.0, sym (ending_is x) ∙ given.1),
+      );
+      gone_is = λ x.
+          let gains = put-gains order gone d (λ y. Unit {0}) gone_rises one tt x in (
+            λ there. elim (gains.0 there) [
+              | inl before ↦ elim ((ended.gone_is x).0 before) [
+                | inl was ↦ inl (inl was)
+                | inr fact ↦ inl (inr (fact.0, ending_is x ∙ fact.1))
+              ]
+              | inr now ↦ inr (contains_head d [] x now.0, subst (λ (y : Datom). withdraws c order y ≡ true) now.0 takes)
+            ],
+            λ given. gains.1 (elim given [
+              | inl older ↦ inl ((ended.gone_is x).1 (elim older [
+                | inl was ↦ inl was
+                | inr fact ↦ inr (fact.0, sym (ending_is x) ∙ fact.1)
+              ]))
+              | inr now ↦ elim (contains-cons d [] x now.0) [
+                | inl same ↦ inr (same, tt)
+                | inr behind ↦ absurd (contains_none x behind)
+              ]
+            ]),
+          );
+    }
+  where
+    alone : (r h m : Bool) → (r && h) ≡ true → ((r && (h && m)) || false) ≡ m
+    alone true true true is = refl
+    alone true true false is = refl
+    alone true false m is = absurd (true≢false (sym is))
+    alone false h m is = absurd (true≢false (sym is))
 
-module _ (order : Order) (c : Coverage) (holding past new : List Datom) (d : Datom) (fact : Option Datom) (retracts : d.added ≡ false)
-    (held : is_held c order d ≡ true) (ended : IsEnded d holding new fact) (single : HasNoTwins (holding ++ past ++ d ∷ [])) where
-  ending_is : (x : Datom) → are_ending c order (d ∷ []) x ≡ is_mate d x
-  ending_is x = rw (retracts, held) (same (is_mate d x))
-    where
-      same : (b : Bool) → (b || false) ≡ b
-      same true = refl
-      same false = refl
-
-  -- the past with what was ended
-  with_fact : List Datom
-  with_fact = with_some order past fact
-
-  gains_fact : (o : Option Datom)
-      → ((x : Datom) → (o ≡ Some x) ↔ (Contains holding x × (is_mate d x ≡ true))) → Gains past (λ x. o ≡ Some x) (with_some order past o)
-  gains_fact None is x = (inl, λ given. elim given [ inl there ↦ there | inr one ↦ absurd (cc) ])
-  gains_fact (Some f) is x =
-      let in_it = ((is f).0 refl).0 in
-      let apart : HasNoTwins (past ++ f ∷ []) =
-      single_part (past ++ f ∷ []) (holding ++ past ++ d ∷ []) (λ y there. elim (Contains-append_cases past (f ∷ []) y there) [
-        | inl before ↦ Contains-append_left (holding ++ past) (d ∷ []) y (Contains-append_right holding past y before)
-        | inr last ↦ elim (contains-cons f [] y last) [
-          | inl same ↦
-              Contains-append_left (holding ++ past) (d ∷ []) y (Contains-append_left holding past y (subst (Contains holding) same in_it))
-          | inr behind ↦ absurd (contains_none y behind)
-        ]
-      ]) single in
-      let gains = one-gains order past f (λ y. Unit {0}) apart tt x in (
-        λ there. elim (gains.0 there) [
-          | inl before ↦ inl before
-          | inr one ↦ inr (ap Some one.0)
-        ],
-        λ given. gains.1 (elim given [
-          | inl before ↦ inl before
-          | inr one ↦ inr (cc, tt)
-        ]),
-      )
-
-  gains_both : Gains past (λ x. (Contains holding x × (is_mate d x ≡ true)) ⊎ (d ≡ x)) (with_one order (with_some order past fact) d)
-  gains_both x =
-      let facts = gains_fact fact ended.fact_is in
-      let apart : HasNoTwins (with_some order past fact ++ d ∷ []) =
-      single_part (with_some order past fact ++ d ∷ []) (holding ++ past ++ d ∷ [])
-      (λ y there. elim (Contains-append_cases (with_some order past fact) (d ∷ []) y there) [
-        | inl before ↦ elim ((facts y).0 before) [
-          | inl was ↦ Contains-append_left (holding ++ past) (d ∷ []) y (Contains-append_right holding past y was)
-          | inr one ↦ Contains-append_left (holding ++ past) (d ∷ []) y (Contains-append_left holding past y ((ended.fact_is y).0 one).0)
-        ]
-        | inr last ↦ Contains-append_right (holding ++ past) (d ∷ []) y last
-      ]) single in
-      let gains = one-gains order (with_some order past fact) d (λ y. Unit {0}) apart tt x in (
-        λ there. elim (gains.0 there) [
-          | inl before ↦ elim ((facts x).0 before) [
-            | inl was ↦ inl was
-            | inr one ↦ inr (inl ((ended.fact_is x).0 one))
-          ]
-          | inr one ↦ inr (inr one.0)
-        ],
-        λ given. gains.1 (elim given [
-          | inl was ↦ inl ((facts x).1 (inl was))
-          | inr more ↦ elim more [
-            | inl fact_ ↦ inl ((facts x).1 (inr ((ended.fact_is x).1 fact_)))
-            | inr one ↦ inr (one, tt)
-          ]
-        ]),
-      )
-
-  withdrawn_now : withdraws c order d ≡ true
-  withdrawn_now = rw (retracts, held) refl
-
-  pub retracted-one : IsRising order new → IsRising order past
-      → IsRetracted order c holding past (d ∷ []) new (with_one order (with_some order past fact) d)
-  retracted-one rising past_rises =
-      record {
-        new_rises = rising;
-        gone_rises = one-rising order (with_some order past fact) d (some-rising order past fact past_rises);
-        new_is = λ x. (
-          λ there. let is = (ended.members x).0 there in (is.0, ending_is x ∙ is.1),
-          λ given. (ended.members x).1 (given.0, sym (ending_is x) ∙ given.1),
-        );
-        gone_is = λ x. (
-          λ there. elim ((gains_both x).0 there) [
-            | inl was ↦ inl (inl was)
-            | inr more ↦ elim more [
-              | inl ended_ ↦ inl (inr (ended_.0, ending_is x ∙ ended_.1))
-              | inr one ↦ inr (contains_head d [] x one, ap (withdraws c order) (sym one) ∙ withdrawn_now)
-            ]
-          ],
-          λ given. (gains_both x).1 (elim given [
-            | inl older ↦ elim older [
-              | inl was ↦ inl was
-              | inr ended_ ↦ inr (inl (ended_.0, sym (ending_is x) ∙ ended_.1))
-            ]
-            | inr now ↦ elim (contains-cons d [] x now.0) [
-              | inl same ↦ inr (inr same)
-              | inr behind ↦ absurd (contains_none x behind)
-            ]
-          ]),
-        );
-      }
+    ending_is : (x : Datom) → are_ending c order (d ∷ []) x ≡ is_mate d x
+    ending_is x = alone (not d.added) (is_held c order d) (is_mate d x) takes
 
 -- ---- one more
 
@@ -201,8 +218,6 @@ pub retracted-more : (order : Order) (c : Coverage) (holding past ds h p : List 
     → IsRetracted order c holding past (ds ++ d ∷ []) new gone
 retracted-more order c holding past ds h p d new gone before next =
     record {
-      new_rises = next.new_rises;
-      gone_rises = next.gone_rises;
       new_is = λ x. (
         λ there.
             let one = (next.new_is x).0 there in
@@ -247,41 +262,76 @@ retracted-more order c holding past ds h p d new gone before next =
 
 -- ---- the next datom of an entry
 
-pub may-less : (all part : List Datom) (d : Datom) → ((x : Datom) → Contains part x → Contains all x) → MayEnd all d → MayEnd part d
-may-less all part d within may =
-    record {
-      earlier = λ x there mate. may.earlier x (within x there) mate;
-      one = λ x y x_in y_in mate_x mate_y. may.one x y (within x x_in) (within y y_in) mate_x mate_y;
-    }
+-- none of the datoms before a place of a rising list stands there
+not_before : (order : Order) (ds : List Datom) (i : ℕ) (e x : Datom) → IsRising order ds → i < length ds → Contains (take i ds) x
+    → x ≡ get_or ds i e → ⊥
+not_before order [] i e x rising within there same = absurd (omega arith)
+not_before order (d ∷ ds) zero e x rising within there same = contains_none x there
+not_before order (d ∷ ds) (suc i) e x rising within there same =
+    elim (contains-cons d (take i ds) x there) [
+      | inl first ↦
+          let less : key_cmp order d (get_or ds i e) ≡ Less =
+          before_member order d ds (get_or ds i e) rising.0 (i, omega arith, get_or_default ds i (get_or ds i e) e (omega arith)) in
+          let tied : key_cmp order d d ≡ Equal = tied_itself (key_cmp_total order) d in
+          let self : key_cmp order d d ≡ Less =
+          subst (λ (y : Datom). key_cmp order d y ≡ Less) (sym same ∙ sym first) less in
+          absurd (cc)
+      | inr behind ↦ not_before order ds i e x rising.1 (omega arith) behind same
+    ]
 
-module _ (order : Order) (c : Coverage) (holding past ds h p : List Datom) (i : ℕ) (item : Datom)
-    (before : IsRetracted order c holding past (take i ds) h p) where
-  pub held_before : (x : Datom) → Contains h x → Contains holding x
-  held_before x there = ((before.new_is x).0 there).0
+pub is_new : (order : Order) (ds : List Datom) (i : ℕ) (item : Datom) → IsRising order ds → i < length ds → item ≡ get_or ds i item
+    → Contains (take i ds) item → ⊥
+is_new order ds i item rising within is there = not_before order ds i item item rising within there is
 
-  pub retracted-single : HasNoTwins (holding ++ past ++ ds) → i < length ds → item ≡ get_or ds i item → HasNoTwins (h ++ p ++ item ∷ [])
-  retracted-single single within is =
-      single_part (h ++ p ++ item ∷ []) (holding ++ past ++ ds) (λ x there. elim (Contains-append_cases (h ++ p) (item ∷ []) x there) [
-        | inl older ↦ elim (Contains-append_cases h p x older) [
-          | inl first ↦ Contains-append_left (holding ++ past) ds x (Contains-append_left holding past x (held_before x first))
-          | inr second ↦ elim ((before.gone_is x).0 second) [
-            | inl was ↦ elim was [
-              | inl gone ↦ Contains-append_left (holding ++ past) ds x (Contains-append_right holding past x gone)
-              | inr ended ↦ Contains-append_left (holding ++ past) ds x (Contains-append_left holding past x ended.0)
-            ]
-            | inr now ↦ Contains-append_right (holding ++ past) ds x (from_take i ds x now.0)
-          ]
-        ]
-        | inr last ↦ elim (contains-cons item [] x last) [
-          | inl same ↦ Contains-append_right (holding ++ past) ds x (i, within, get_or_default ds i x item within ∙ sym is ∙ same)
-          | inr behind ↦ absurd (contains_none x behind)
-        ]
-      ]) single
+pub in_them : (ds : List Datom) (i : ℕ) (item : Datom) → i < length ds → item ≡ get_or ds i item → Contains ds item
+in_them ds i item within is = (i, within, sym is)
 
-  pub retracted-next : (new gone : List Datom) → i < length ds → item ≡ get_or ds i item → IsRetracted order c h p (item ∷ []) new gone
+module _ (order rank : Order) (c : Coverage) (holding past ds h p : List Datom) (i : ℕ) (item : Datom) (rising : IsRising rank ds)
+    (all : MayEndAll holding past ds) (before : IsRetracted order c holding past (take i ds) h p) (within : i < length ds)
+    (is : item ≡ get_or ds i item) where
+  -- no datom of the entry holds
+  not_held : (x : Datom) → Contains ds x → Contains holding x → ⊥
+  not_held x there holds = let early = (all x there).earlier x holds (of_itself x) in omega arith
+
+  pub may-next : MayEnd h p item
+  may-next =
+      let may = all item (in_them ds i item within is) in
+      record {
+        earlier = λ x there mate. may.earlier x ((before.new_is x).0 there).0 mate;
+        one = λ x y x_in y_in mate_x mate_y. may.one x y ((before.new_is x).0 x_in).0 ((before.new_is y).0 y_in).0 mate_x mate_y;
+        apart = λ x there gone.
+            let at = (before.new_is x).0 there in
+            elim ((before.gone_is x).0 gone) [
+              | inl older ↦ elim older [
+                | inl was ↦ may.apart x at.0 was
+                | inr ended ↦ true≢false (sym ended.1 ∙ at.1)
+              ]
+              | inr now ↦ not_held x (from_take i ds x now.0) at.0
+            ];
+        fresh = λ gone.
+            elim ((before.gone_is item).0 gone) [
+              | inl older ↦ elim older [
+                | inl was ↦ may.fresh was
+                | inr ended ↦ not_held item (in_them ds i item within is) ended.0
+              ]
+              | inr now ↦ is_new rank ds i item rising within is now.0
+            ];
+      }
+
+  pub retracted-next : (new gone : List Datom) → IsRetracted order c h p (item ∷ []) new gone
       → IsRetracted order c holding past (take (i + 1) ds) new gone
-  retracted-next new gone within is next =
+  retracted-next new gone next =
       let split : take (i + 1) ds ≡ take i ds ++ item ∷ [] =
       take_more ds i item within ∙ ap (λ (z : Datom). take i ds ++ z ∷ []) (sym is) in
       subst (λ (l : List Datom). IsRetracted order c holding past l new gone) (sym split)
       (retracted-more order c holding past (take i ds) h p item new gone before next)
+
+-- one addition more
+pub none_more : (ds : List Datom) (i : ℕ) (item : Datom) → i < length ds → item ≡ get_or ds i item
+    → list_any (λ d. not d.added) (take i ds) ≡ false → not item.added ≡ false → list_any (λ d. not d.added) (take (i + 1) ds) ≡ false
+none_more ds i item within is none adds =
+    let split : take (i + 1) ds ≡ take i ds ++ item ∷ [] =
+    take_more ds i item within ∙ ap (λ (z : Datom). take i ds ++ z ∷ []) (sym is) in
+    ap (list_any (λ d. not d.added)) split
+    ∙ list_any-append (λ d. not d.added) (take i ds) (item ∷ [])
+    ∙ or_false_both _ _ none (or_false_both _ _ adds refl)

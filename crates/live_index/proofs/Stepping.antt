@@ -1,6 +1,6 @@
 -- A step of a walk over the two halves of an order's list.
 use denote.Ref.{Bor}
-use Rattle.std.proofs.Common.{◌≡◌, ◌∙◌, ℕ, inl, inr, true, false, List, [], ◌∷◌, ◌++◌, length, drop, refl, sym, ap, subst, Option, Some}
+use Rattle.std.proofs.Common.{◌≡◌, ◌∙◌, ℕ, inl, inr, true, false, List, [], ◌∷◌, ◌++◌, length, drop, refl, subst, Option, Some}
 use Rattle.std.proofs.Common.{None}
 use Rattle.std.specs.Prelude.{Contains}
 use Rattle.std.specs.List.{slice_get}
@@ -12,12 +12,11 @@ use Rattle.fb_values.specs.declared.indexes.Order.{Order}
 use Rattle.fb_values.specs.Rising.{IsRising}
 use Rattle.fb_values.proofs.Rising.{less_is}
 use Rattle.fb_model.specs.Facts.{standing}
-use Rattle.fb_model.specs.Rising.{put_in_order, in_order}
-use Rattle.live_blocks.specs.Walks.{IsFirstOf}
+use Rattle.live_runs.specs.Walks.{IsFirstOf}
 use Rattle.live_index.specs.Halves.{IsPair, merged, withdrawn}
 use Rattle.live_index.specs.Walks.{comes_first}
 use Rattle.live_index.proofs.Halves.{pair_of}
-use Rattle.live_index.proofs.Walking.{put_first, from_drop, rising-drop, next_older_alone, next_live_alone, next_older, next_live}
+use Rattle.live_index.proofs.Walking.{in_order_rising, from_drop, rising-drop, next_older_alone, next_live_alone, next_older, next_live}
 
 pub pair-drop : (order : Order) (older live : List Datom) (i j : ℕ) → IsPair order older live → IsPair order (drop i older) (drop j live)
 pair-drop order older live i j pair =
@@ -88,10 +87,6 @@ step_past order (x ∷ xs) (y ∷ ys) p' (Some d) pair first is =
     }
 
 -- ---- one half alone
-
-in_order_rising : (order : Order) (ds : List Datom) → IsRising order ds → in_order order ds ≡ ds
-in_order_rising order [] rising = refl
-in_order_rising order (d ∷ ds) rising = ap (put_in_order order d) (in_order_rising order ds rising.1) ∙ put_first order d ds rising.0
 
 pub merged_alone : (order : Order) (ds : List Datom) → IsRising order ds → merged order ds [] ≡ ds
 merged_alone order ds rising = rw (append-nil ds) (in_order_rising order ds rising)

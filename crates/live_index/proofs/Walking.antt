@@ -22,6 +22,11 @@ pub put_first : (order : Order) (x : Datom) (ds : List Datom) → IsBelowAll ord
 put_first order x [] before = refl
 put_first order x (y ∷ ds) before = rw before.0 refl
 
+-- a rising list is in order
+pub in_order_rising : (order : Order) (ds : List Datom) → IsRising order ds → in_order order ds ≡ ds
+in_order_rising order [] rising = refl
+in_order_rising order (d ∷ ds) rising = ap (put_in_order order d) (in_order_rising order ds rising.1) ∙ put_first order d ds rising.0
+
 -- a datom before all others comes first
 merge_left : (order : Order) (x : Datom) (ds : List Datom)
     → ((d : Datom) → Contains ds d → key_cmp order x d ≡ Less) → in_order order (x ∷ ds) ≡ x ∷ in_order order ds

@@ -2,8 +2,7 @@
 -- Restates Indexes of Datomic's documentation.
 -- That AVET is refilled where an attribute gets an index is this project's own choice.
 use Rattle.std.specs.Prelude.{◌≡◌, ◌↔◌, ◌⊎◌, ◌&&◌, Bool, false, List, Contains, IsTrue, Option}
-use Rattle.std.specs.Prelude.{IfSome, if◌then◌else◌}
-use Rattle.std.specs.List.{All, insert, slice_get}
+use Rattle.std.specs.Prelude.{if◌then◌else◌}
 use Rattle.std.specs.Option.{option_map_or}
 use Rattle.std.specs.Ordering.{is_eq}
 use Rattle.fb_values.specs.declared.facts.Datom.{Datom}
@@ -13,7 +12,7 @@ use Rattle.fb_values.specs.Orders.{key_cmp}
 use Rattle.fb_values.specs.OrderLaws.{IsAtOnePlace}
 use Rattle.fb_covers.specs.Coverage.{Coverage, covers}
 use Rattle.fb_values.specs.Rising.{IsRising}
-use Rattle.fb_search.specs.Places.{place_of, probe_of}
+use Rattle.fb_model.specs.Rising.{put_in_order}
 
 -- two datoms of one entity, attribute, value and t are one datom
 abbrev pub HasNoTwins : List Datom → Type 0
@@ -35,20 +34,9 @@ pub record IsGrown (order : Order) (coverage : Coverage) (old refill datoms new 
   pub members : (d : Datom)
       → Contains new d ↔ (IsOffered order old refill datoms d × IsTrue (is_held coverage order d))
 
--- the list rises, and holds the datoms of held attributes alone, by the coverage of the last entry
-abbrev pub IsSound : Order → Option Coverage → List Datom → Type 0
-IsSound order coverage ds =
-    IsRising order ds × IfSome coverage (λ c. All (λ d. IsTrue (is_held c order d)) ds)
-
 -- a datom was found, and it has this datom's key
 abbrev pub is_twin : Order → Datom → Option Datom → Bool
 is_twin order d found = option_map_or (λ x. is_eq (key_cmp order x d)) found false
-
--- the list with a datom at its place, unless it is there
-abbrev pub with_one : Order → List Datom → Datom → List Datom
-with_one order ds d =
-    let place = place_of (probe_of order d) ds in
-    if is_twin order d (slice_get ds place) then ds else insert ds place d
 
 -- the order takes the datom: it is an addition, and the order's index holds its attribute
 abbrev pub takes : Coverage → Order → Datom → Bool
@@ -56,4 +44,4 @@ takes coverage order d = d.added && is_held coverage order d
 
 -- the list with a datom, where the order takes it
 abbrev pub with_taken : Coverage → Order → List Datom → Datom → List Datom
-with_taken coverage order ds d = if takes coverage order d then with_one order ds d else ds
+with_taken coverage order ds d = if takes coverage order d then put_in_order order d ds else ds

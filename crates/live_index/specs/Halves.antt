@@ -11,8 +11,7 @@ use Rattle.fb_values.specs.Lists.{Lists}
 use Rattle.fb_values.specs.Rising.{IsRising}
 use Rattle.fb_model.specs.Rising.{in_order}
 use Rattle.fb_model.specs.Facts.{standing, is_last_assertion}
-use Rattle.fb_covers.specs.Coverage.{Coverage}
-use Rattle.live_index.specs.Growth.{HasNoTwins, IsGrown}
+use Rattle.live_index.specs.Growth.{HasNoTwins}
 use Rattle.live_index.specs.Ending.{is_mate}
 
 -- both lists rise, no datom is in both, and no two with one key differ
@@ -62,17 +61,3 @@ outlives later d = not (list_any (is_mate d) later)
 abbrev pub IsLater : List Datom → List Datom → Type 0
 IsLater older live =
     (x y : Datom) → Contains older x → Contains live y → is_mate x y ≡ true → x.t < y.t
-
--- the two lists of an order by a coverage, with more datoms:
--- they are halves of the old list with these
-pub record AreMade (order : Order) (coverage : Coverage) (old more holding past : List Datom)
-    : Type 0 where
-  pub halves : AreHalves order holding past
-  pub grown : IsGrown order coverage old [] more (merged order holding past)
-
--- what an order gets: AVET also what it is refilled with
-abbrev pub more_in : Order → List Datom → List Datom → List Datom
-more_in Eavt more filled = more
-more_in Aevt more filled = more
-more_in Avet more filled = filled
-more_in Vaet more filled = more

@@ -1,10 +1,10 @@
 pub mod Growth
-pub mod Newest
-pub mod Pool
-pub mod Listed
 pub mod Ending
 pub mod Halves
-pub mod Walks
+pub mod Lists
+pub mod Gathered
+pub mod Ranks
 pub mod Splits
+pub mod Walks
 pub mod Samples
 pub mod Standing

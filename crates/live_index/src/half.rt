@@ -1,20 +1,107 @@
-//! One half of an order's live datoms on a walk: what holds, or what does not.
-ghost use Rattle.std.specs.Prelude.{◌≡◌};
-ghost use Rattle.std.specs.List.{slice_get};
+//! One half of the live index: what holds, or what does not.
+ghost use Rattle.std.specs.Prelude.{◌≡◌, ℕ, ◌+◌, ◌-◌, ◌*◌, ◌^◌, ◌<◌, ◌≤◌, [], length};
+ghost use Rattle.std.specs.List.{list_any, slice_get};
 ghost use Rattle.std.specs.Option.{option_copied};
-ghost use Rattle.live_blocks.specs.Walks.{IsFirstOf};
-ghost use Rattle.live_index.specs.Walks.{IsRest, rest_of};
+ghost use Rattle.fb_values.specs.declared.indexes.Order.TheVariants.{Eavt};
+ghost use Rattle.fb_values.specs.Lists.{list_in};
+ghost use Rattle.fb_values.specs.Rising.{IsRising};
+ghost use Rattle.live_runs.specs.Bounds.{blocks_at_least};
+ghost use Rattle.live_runs.specs.Changed.{from_probe};
+ghost use Rattle.live_runs.specs.Walks.{IsFirstOf};
+ghost use Rattle.live_index.specs.Ending.{is_mate};
+ghost use Rattle.live_index.specs.Lists.{AreIf, lists_if, looked_at};
+ghost use Rattle.live_index.specs.Walks.{IsRest, before_rest, rest_of};
 
-use crate::listed_walk::ListedWalk;
-use fb_values::Datom;
+use crate::orders::Orders;
+use fb_search::Steps;
+use fb_values::{Datom, Order, Probe};
+use live_runs::{RunsWalk, Table};
 use std::marker::Model;
+use std::sync::ledger::Ledger;
 
-/// A walk over a half.
+/// Four lists of datoms, each strictly rising in its order.
+#[derive(Drop)]
+pub struct Half<'a> {
+    table: &'a Table,
+    orders: Option<&'a Orders>,
+}
+
+impl<'a> Model for Half<'a> {
+    ghost use Rattle.fb_values.specs.Lists.{Lists};
+    ghost use Rattle.live_index.specs.Lists.{AreIf, lists_if, looked_at};
+
+    ghost Value = { Lists };
+
+    ghost view = { λ h. lists_if h.table.now (looked_at h.orders) };
+
+    ghost invariant = { λ h. AreIf h.table.now (looked_at h.orders) };
+}
+
+impl<'a> Half<'a> {
+    pub(crate) fn of(table: &'a Table, orders: Option<&'a Orders>) -> Half<'a>
+        requires { AreIf table.now (looked_at orders) }
+        ensures { result ≡ lists_if table.now (looked_at orders.entry) }
+    {
+        Half { table, orders }
+    }
+
+    /// How many datoms the order's list has.
+    pub fn len(&self, order: Order) -> u64
+        ensures { result ≡ length (list_in self.now order) }
+    {
+        match self.orders {
+            None => 0,
+            Some(orders) => orders.list(order).len() as u64,
+        }
+    }
+
+    /// The walk over the order's list.
+    pub fn walk(&self, order: Order) -> HalfWalk<'a>
+        ensures { result ≡ list_in self.now order }
+    {
+        match self.orders {
+            None => HalfWalk::of(Rest::Nothing),
+            Some(orders) => HalfWalk::of(Rest::Runs(orders.list(order).walk(self.table, order))),
+        }
+    }
+
+    /// The walk from the first datom on that is not below the probe, over the list of the probe's order.
+    pub fn seek<L: Ledger>(&self, probe: &Probe, steps: &mut Steps<L>) -> HalfWalk<'a>
+        ensures place { result ≡ from_probe probe.now (list_in self.now probe.now.order) }
+        ensures rising { IsRising probe.now.order (list_in self.now probe.now.order) }
+        // At most twice the binary digits of the number of blocks, and 18 more, however few the blocks are.
+        ensures cost { (digits : ℕ)
+            → blocks_at_least (length (list_in self.now probe.now.order)) < 2 ^ digits
+            → steps.new ≤ steps.old + 2 * digits + 18 }
+    {
+        match self.orders {
+            None => HalfWalk::of(Rest::Nothing),
+            Some(orders) => {
+                let runs = orders.list(probe.order);
+                HalfWalk::of(Rest::Runs(runs.seek(self.table, probe, steps)))
+            }
+        }
+    }
+
+    /// Whether a datom of the datom's triple is there. No comparison counts.
+    pub fn has_mate(&self, datom: &Datom) -> bool
+        ensures { result ≡ list_any (is_mate datom.now) (list_in self.now Eavt) }
+    {
+        match self.orders {
+            None => false,
+            Some(orders) => {
+                let order = Order::Eavt;
+                orders.list(order).has_mate(self.table, order, datom)
+            }
+        }
+    }
+}
+
+/// What is left of a list.
 #[derive(Drop)]
 pub enum Rest<'a> {
     Nothing,
-    Holding(ListedWalk<'a>),
-    Past(live_blocks::Walk<'a>),
+    Runs(RunsWalk<'a>),
 }
 
 impl<'a> Rest<'a> {
@@ -25,20 +112,19 @@ impl<'a> Rest<'a> {
     {
         match self {
             Rest::Nothing => None,
-            Rest::Holding(walk) => walk.next(),
-            Rest::Past(walk) => walk.next(),
+            Rest::Runs(walk) => walk.next(),
         }
     }
 }
 
-/// What is left of a half, with its first datom at hand.
+/// What is left of a half's list, with its first datom at hand.
 #[derive(Drop)]
-pub struct Half<'a> {
+pub struct HalfWalk<'a> {
     first: Option<&'a Datom>,
     rest: Rest<'a>,
 }
 
-impl<'a> Model for Half<'a> {
+impl<'a> Model for HalfWalk<'a> {
     ghost use Rattle.std.specs.Prelude.{List};
     ghost use Rattle.fb_values.specs.declared.facts.Datom.{Datom};
     ghost use Rattle.live_index.specs.Walks.{IsRest, before_rest, rest_of};
@@ -50,13 +136,20 @@ impl<'a> Model for Half<'a> {
     ghost invariant = { λ h. IsRest h.rest };
 }
 
-impl<'a> Half<'a> {
-    pub fn of(mut rest: Rest<'a>) -> Half<'a>
+impl<'a> HalfWalk<'a> {
+    pub(crate) fn of(mut rest: Rest<'a>) -> HalfWalk<'a>
         requires { IsRest rest }
         ensures { result ≡ rest_of rest.entry }
     {
         let first = rest.next();
-        Half { first, rest }
+        HalfWalk { first, rest }
+    }
+
+    /// Nothing.
+    pub(crate) fn none() -> HalfWalk<'a>
+        ensures { result ≡ [] }
+    {
+        HalfWalk::of(Rest::Nothing)
     }
 
     /// The next datom, without a step.

@@ -32,7 +32,7 @@ use Rattle.live_runs.proofs.Walking.{both_gone, change_next, member_next}
 
 pub left_member : (order : Order) (table : List Datom) (newest : List Change) (m : Member) (ms : List Member) (later : List Part) (safe : ℕ)
     → AreLeft order table newest (m ∷ ms) later safe → 0 < safe
-    → AreLeft order table newest ms later (safe - 1)
+    → (m.number < length table) × AreLeft order table newest ms later (safe - 1)
     × (changed_by order table newest (named table (members_left (m ∷ ms) later))
     ≡ datom_of table m.number ∷ changed_by order table newest (named table (members_left ms later)))
 left_member order table newest m ms later zero left some = absurd (omega arith)
@@ -52,17 +52,17 @@ left_member order table newest m ms later (suc k) left some =
       within = omega (arith, left.within);
       before = λ x y x_in y_in. left.before x y (there d x (named table (take k ms)) x_in) y_in;
     } in
-    (rw less rest, next.first)
+    ((All-head (IsMember order table) m (ms ++ members_of later) left.members.members).within, rw less rest, next.first)
 
 -- ---- a change
 
-none_safe : (order : Order) (table : List Datom) (newest : List Change) (chunk : List Member) (x y : Datom)
+pub none_safe : (order : Order) (table : List Datom) (newest : List Change) (chunk : List Member) (x y : Datom)
     → Contains (named table (take 0 chunk)) x → Contains (held_by changing table newest) y → key_cmp order x y ≡ Less
 none_safe order table newest chunk x y x_in y_in = absurd (none_of x x_in)
 
 pub left_change : (order : Order) (table : List Datom) (c : Change) (cs : List Change) (chunk : List Member) (later : List Part) (safe : ℕ)
     → AreLeft order table (c ∷ cs) chunk later safe → safe ≡ 0 → IsAhead order table (c ∷ cs) (members_left chunk later)
-    → AreLeft order table cs chunk later safe
+    → (c.number < length table) × AreLeft order table cs chunk later safe
     × (changed_by order table (c ∷ cs) (named table (members_left chunk later))
     ≡ datom_of table c.number ∷ changed_by order table cs (named table (members_left chunk later)))
 left_change order table c cs chunk later safe left no_safe ahead =
@@ -75,8 +75,11 @@ left_change order table c cs chunk later safe left no_safe ahead =
       changes = next.changes;
       within = omega arith;
       before = none_safe order table cs chunk;
-    } in
-    (subst (AreLeft order table cs chunk later) (sym no_safe) rest, next.first)
+    } in (
+      (All-head (λ x. IsMember order table (changing x)) c cs left.changes.members).within,
+      subst (AreLeft order table cs chunk later) (sym no_safe) rest,
+      next.first,
+    )
 
 -- ---- both
 

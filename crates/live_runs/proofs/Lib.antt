@@ -15,3 +15,9 @@ pub mod Walking
 pub mod Removing
 pub mod Running
 pub mod Left
+pub mod Merges
+pub mod Settling
+pub mod Seeking
+pub mod Triples
+pub mod Mating
+pub mod Counting

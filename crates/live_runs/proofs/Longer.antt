@@ -11,9 +11,9 @@ use Rattle.fb_prefix.specs.Prefixes.{prefix_in}
 use Rattle.live_runs.specs.declared.members.Change.{Change}
 use Rattle.live_runs.specs.declared.members.Member.{Member}
 use Rattle.live_runs.specs.Changed.{HasNoTwins, IsWithin, changed}
-use Rattle.live_runs.specs.Changes.{AreChanges, AreMembers, added, removed}
+use Rattle.live_runs.specs.Changes.{AreChanges, AreMembers, added, changed_by, removed}
 use Rattle.live_runs.specs.Members.{IsMember, changing, datom_by, datom_of, held_by, named, nothing}
-use Rattle.live_runs.specs.Runs.{AreRuns, Layers, runs_datoms}
+use Rattle.live_runs.specs.Runs.{AreRuns, IsSettled, Layers, runs_datoms, settled_datoms}
 
 pub datom_longer : (table more : List Datom) (n : ℕ) → n < length table → datom_of (table ++ more) n ≡ datom_of table n
 datom_longer table more n within = get_or_append_left table more nothing n within
@@ -88,24 +88,43 @@ changes_longer order table more cs base are =
           are.fresh;
     }
 
+pub changed_longer : (order : Order) (table more : List Datom) (cs : List Change) (base : List Datom)
+    → All (λ c. IsMember order table (changing c)) cs
+    → changed_by order (table ++ more) cs base ≡ changed_by order table cs base
+changed_longer order table more cs base all =
+    ap (λ (l : List Datom). changed order l (added (table ++ more) cs) base) (removed_longer order table more cs all)
+    ∙ ap (λ (l : List Datom). changed order (removed table cs) l base) (added_longer order table more cs all)
+
+pub settled_longer : (order : Order) (table more : List Datom) (middle : List Change) (ms : List Member) → IsSettled order table middle ms
+    → settled_datoms order (table ++ more) middle ms ≡ settled_datoms order table middle ms
+settled_longer order table more middle ms is =
+    changed_longer order table more middle (named (table ++ more) ms) is.changes_are.members
+    ∙ ap (changed_by order table middle) (held_longer (λ m. m) order table more ms is.members_are.members)
+
 pub datoms_longer : (order : Order) (table more : List Datom) (r : Layers) → AreRuns order table r
     → runs_datoms order (table ++ more) r ≡ runs_datoms order table r
 datoms_longer order table more r are =
-    ap (λ (l : List Datom). changed order l (added (table ++ more) r.newest) (named (table ++ more) r.settled))
-    (removed_longer order table more r.newest are.newest.members)
-    ∙ ap (λ (l : List Datom). changed order (removed table r.newest) l (named (table ++ more) r.settled))
-    (added_longer order table more r.newest are.newest.members)
-    ∙ ap (changed order (removed table r.newest) (added table r.newest)) (held_longer (λ m. m) order table more r.settled are.settled.members)
+    changed_longer order table more r.newest (settled_datoms order (table ++ more) r.middle r.settled) are.newest.members
+    ∙ ap (changed_by order table r.newest) (settled_longer order table more r.middle r.settled are.settled)
 
 pub runs_longer : (order : Order) (table more : List Datom) (r : Layers) → AreRuns order table r → HasNoTwins (table ++ more)
     → AreRuns order (table ++ more) r
 runs_longer order table more r are single =
+    let same = settled_longer order table more r.middle r.settled are.settled in
     record {
       single = single;
-      settled = members_longer order table more r.settled are.settled;
+      settled =
+          record {
+            members_are = members_longer order table more r.settled are.settled.members_are;
+            changes_are =
+                subst (AreChanges order (table ++ more) r.middle)
+                (sym (held_longer (λ m. m) order table more r.settled are.settled.members_are.members))
+                (changes_longer order table more r.middle (named table r.settled) are.settled.changes_are);
+            short = are.settled.short;
+            few = omega (arith, are.settled.few, ap length same);
+          };
       newest =
-          subst (AreChanges order (table ++ more) r.newest)
-          (sym (held_longer (λ m. m) order table more r.settled are.settled.members))
-          (changes_longer order table more r.newest (named table r.settled) are.newest);
+          subst (AreChanges order (table ++ more) r.newest) (sym same)
+          (changes_longer order table more r.newest (settled_datoms order table r.middle r.settled) are.newest);
       count_is = are.count_is ∙ ap length (sym (datoms_longer order table more r are));
     }

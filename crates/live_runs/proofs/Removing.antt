@@ -1,5 +1,5 @@
 -- A list without one of its datoms.
-use Rattle.std.proofs.Common.{◌≡◌, ◌∙◌, ◌+◌, ◌⊎◌, inl, inr, Bool, true, false, not, cond, List, [], ◌∷◌, length, refl, sym, ap, subst, arith}
+use Rattle.std.proofs.Common.{◌≡◌, ◌∙◌, ◌+◌, inl, inr, Bool, true, false, not, cond, List, [], ◌∷◌, length, refl, sym, ap, subst, arith}
 use Rattle.std.specs.Prelude.{Contains, filter}
 use Rattle.std.specs.Cmp.{tied_itself}
 use Rattle.std.specs.Ordering.{is_eq}
@@ -11,7 +11,7 @@ use Rattle.fb_values.specs.declared.indexes.Order.{Order}
 use Rattle.fb_values.specs.Orders.{key_cmp}
 use Rattle.fb_values.specs.OrderLaws.{key_cmp_total}
 use Rattle.fb_values.specs.Rising.{IsBelowAll, IsRising}
-use Rattle.fb_model.proofs.Members.{here, there, cases_of, none_of, kept, keep}
+use Rattle.fb_model.proofs.Members.{here, cases_of, none_of, kept, keep}
 use Rattle.live_runs.specs.Changed.{HasNoTwins, IsWithin, changed, MayChange, without}
 use Rattle.live_runs.proofs.Rises.{before_all, before_member, one_key}
 use Rattle.live_runs.proofs.Changed.{IsOfChanged, changed_is}

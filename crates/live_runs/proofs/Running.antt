@@ -3,7 +3,7 @@ use Rattle.std.proofs.Common.{◌≡◌, ◌∙◌, ℕ, zero, suc, ◌+◌, ◌
 use Rattle.std.specs.Prelude.{Contains}
 use Rattle.std.specs.List.{insert, remove, slice_get}
 use Rattle.std.proofs.lemmas.Bool.{true≢false}
-use Rattle.std.proofs.lemmas.List.{length-drop, length-take}
+use Rattle.std.proofs.lemmas.List.{length-drop, length-map, length-take}
 use Rattle.std.proofs.lemmas.List.Elements.{All-nil}
 use Rattle.fb_values.specs.declared.facts.Datom.{Datom}
 use Rattle.fb_values.specs.declared.indexes.Order.{Order}
@@ -15,7 +15,7 @@ use Rattle.live_runs.specs.declared.members.Member.{Member}
 use Rattle.live_runs.specs.Changed.{HasNoTwins, IsWithin, changed, MayChange, without}
 use Rattle.live_runs.specs.Changes.{AreChanges, AreMembers, added, changed_by, is_met, place_in, removed, with_change}
 use Rattle.live_runs.specs.Members.{IsMember, changing, datom_of, named}
-use Rattle.live_runs.specs.Runs.{AreRuns, Layers, runs_datoms}
+use Rattle.live_runs.specs.Runs.{AreRuns, IsSettled, Layers, runs_datoms, settled_datoms}
 use Rattle.live_runs.proofs.Adding.{adding_is, adding_length, adding_may}
 use Rattle.live_runs.proofs.Changed.{changed_rises, changed_within, unchanged}
 use Rattle.live_runs.proofs.Named.{datom_within, may_change}
@@ -35,41 +35,89 @@ no_changes order table base =
 pub no_members : (order : Order) (table : List Datom) → AreMembers order table []
 no_members order table = record { members = All-nil (IsMember order table); rising = tt }
 
--- a list without changes
-pub settled_runs : (order : Order) (table : List Datom) (newest : List Change) (ms : List Member) (count : ℕ) (target : List Datom)
-    → HasNoTwins table → AreMembers order table ms → newest ≡ [] → named table ms ≡ target → count ≡ length target
-    → AreRuns order table (record { newest = newest; settled = ms; count = count })
-    × (runs_datoms order table (record { newest = newest; settled = ms; count = count }) ≡ target)
-settled_runs order table newest ms count target single are none is counted =
+module _ (order : Order) (table : List Datom) (middle : List Change) (ms : List Member) (single : HasNoTwins table)
+    (is : IsSettled order table middle ms) where
+  pub settled_may : MayChange order table (removed table middle) (added table middle) (named table ms)
+  settled_may =
+      may_change order table middle (named table ms) is.changes_are is.members_are.rising (members_within order table ms is.members_are)
+
+  pub settled_rises : IsRising order (settled_datoms order table middle ms)
+  settled_rises = changed_rises order table (removed table middle) (added table middle) (named table ms) single settled_may
+
+  pub settled_within : IsWithin table (settled_datoms order table middle ms)
+  settled_within = changed_within order table (removed table middle) (added table middle) (named table ms) single settled_may
+
+-- no changes of a list
+pub none_changed : (order : Order) (table base : List Datom) → HasNoTwins table → IsRising order base → IsWithin table base
+    → changed_by order table [] base ≡ base
+none_changed order table base single rises within =
+    unchanged order table base single (may_change order table [] base (no_changes order table base) rises within)
+
+-- a list alone
+pub alone_settled : (order : Order) (table : List Datom) (middle : List Change) (ms : List Member) → HasNoTwins table
+    → AreMembers order table ms → middle ≡ []
+    → IsSettled order table middle ms × (settled_datoms order table middle ms ≡ named table ms)
+alone_settled order table middle ms single are none =
     let stays : changed_by order table [] (named table ms) ≡ named table ms =
-    unchanged order table (named table ms) single
-    (may_change order table [] (named table ms) (no_changes order table (named table ms)) are.rising (members_within order table ms are)) in
-    let at : AreRuns order table (record { newest = []; settled = ms; count = count }) =
+    none_changed order table (named table ms) single are.rising (members_within order table ms are) in
+    let at : IsSettled order table [] ms =
+    record {
+      members_are = are;
+      changes_are = no_changes order table (named table ms);
+      short = omega arith;
+      few = omega (arith, ap length stays, length-map ms (λ (m : Member). datom_of table m.number));
+    } in (
+      subst (λ (l : List Change). IsSettled order table l ms) (sym none) at,
+      subst (λ (l : List Change). changed_by order table l (named table ms) ≡ named table ms) (sym none) stays,
+    )
+
+-- what is settled, without newer changes
+pub settled_runs : (order : Order) (table : List Datom) (newest middle : List Change) (ms : List Member) (count : ℕ) (target : List Datom)
+    → HasNoTwins table → IsSettled order table middle ms → newest ≡ [] → settled_datoms order table middle ms ≡ target
+    → count ≡ length target
+    → AreRuns order table (record { newest = newest; middle = middle; settled = ms; count = count })
+    × (runs_datoms order table (record { newest = newest; middle = middle; settled = ms; count = count }) ≡ target)
+settled_runs order table newest middle ms count target single are none is counted =
+    let stays : changed_by order table [] (settled_datoms order table middle ms) ≡ settled_datoms order table middle ms =
+    none_changed order table (settled_datoms order table middle ms) single (settled_rises order table middle ms single are)
+    (settled_within order table middle ms single are) in
+    let at : AreRuns order table (record { newest = []; middle = middle; settled = ms; count = count }) =
     record {
       single = single;
       settled = are;
-      newest = no_changes order table (named table ms);
+      newest = no_changes order table (settled_datoms order table middle ms);
       count_is = counted ∙ ap length (sym (stays ∙ is));
     } in (
-      subst (λ (l : List Change). AreRuns order table (record { newest = l; settled = ms; count = count })) (sym none) at,
-      subst (λ (l : List Change). changed_by order table l (named table ms) ≡ target) (sym none) (stays ∙ is),
+      subst (λ (l : List Change). AreRuns order table (record { newest = l; middle = middle; settled = ms; count = count })) (sym none) at,
+      subst (λ (l : List Change). changed_by order table l (settled_datoms order table middle ms) ≡ target) (sym none) (stays ∙ is),
     )
+
+-- a list that is made anew
+pub rising_runs : (order : Order) (table : List Datom) (newest middle : List Change) (ms members : List Member) (count : ℕ) → HasNoTwins table
+    → AreMembers order table members → newest ≡ [] → middle ≡ [] → ms ≡ members → count ≡ length members
+    → AreRuns order table (record { newest = newest; middle = middle; settled = ms; count = count })
+    × (runs_datoms order table (record { newest = newest; middle = middle; settled = ms; count = count }) ≡ named table members)
+rising_runs order table newest middle ms members count single are none none_waits same counted =
+    let alone = alone_settled order table middle ms single (subst (AreMembers order table) (sym same) are) none_waits in
+    settled_runs order table newest middle ms count (named table members) single alone.0 none (alone.1 ∙ ap (named table) same)
+    (counted ∙ sym (length-map members (λ (m : Member). datom_of table m.number)))
 
 -- a change that adds a datom
 pub added_runs : (order : Order) (table : List Datom) (r : Layers) (c : Change) (newest : List Change) (count : ℕ)
     → AreRuns order table r → IsMember order table (changing c) → c.removes ≡ false
     → (Contains (runs_datoms order table r) (datom_of table c.number) → ⊥) → newest ≡ with_change order table r.newest c
     → count ≡ r.count + 1
-    → AreRuns order table (record { newest = newest; settled = r.settled; count = count })
-    × (runs_datoms order table (record { newest = newest; settled = r.settled; count = count })
+    → AreRuns order table (record { newest = newest; middle = r.middle; settled = r.settled; count = count })
+    × (runs_datoms order table (record { newest = newest; middle = r.middle; settled = r.settled; count = count })
     ≡ put_in_order order (datom_of table c.number) (runs_datoms order table r))
 added_runs order table r c newest count are member adds fresh newest_is count_is =
     let d = datom_of table c.number in
-    let base = named table r.settled in
+    let base = settled_datoms order table r.middle r.settled in
     let runs = runs_datoms order table r in
-    let base_within : IsWithin table base = members_within order table r.settled are.settled in
+    let base_rises : IsRising order base = settled_rises order table r.middle r.settled are.single are.settled in
+    let base_within : IsWithin table base = settled_within order table r.middle r.settled are.single are.settled in
     let may0 : MayChange order table (removed table r.newest) (added table r.newest) base =
-    may_change order table r.newest base are.newest are.settled.rising base_within in
+    may_change order table r.newest base are.newest base_rises base_within in
     let rises : IsRising order runs = changed_rises order table (removed table r.newest) (added table r.newest) base are.single may0 in
     let within : IsWithin table runs = changed_within order table (removed table r.newest) (added table r.newest) base are.single may0 in
     let d_in : Contains table d = datom_within table c.number member.within in
@@ -80,7 +128,7 @@ added_runs order table r c newest count are member adds fresh newest_is count_is
     subst (λ (l : List Datom). MayChange order table l (added table (c ∷ [])) runs) (sym goes)
     (subst (λ (l : List Datom). MayChange order table [] l runs) (sym comes) plain) in
     let put : IsPut order table r.newest c base (with_change order table r.newest c) =
-    put_is order table r.newest c base are.single member are.newest are.settled.rising base_within may1 in
+    put_is order table r.newest c base are.single member are.newest base_rises base_within may1 in
     let sum : changed_by order table (c ∷ []) runs ≡ put_in_order order d runs =
     ap (λ (l : List Datom). changed order l (added table (c ∷ [])) runs) goes
     ∙ ap (λ (l : List Datom). changed order [] l runs) comes
@@ -132,16 +180,17 @@ pub removed_runs : (order : Order) (table : List Datom) (r : Layers) (c : Change
     → AreRuns order table r → IsMember order table (changing c) → c.removes ≡ true
     → Contains (runs_datoms order table r) (datom_of table c.number) → newest ≡ with_change order table r.newest c
     → count + 1 ≡ r.count
-    → AreRuns order table (record { newest = newest; settled = r.settled; count = count })
-    × (runs_datoms order table (record { newest = newest; settled = r.settled; count = count })
+    → AreRuns order table (record { newest = newest; middle = r.middle; settled = r.settled; count = count })
+    × (runs_datoms order table (record { newest = newest; middle = r.middle; settled = r.settled; count = count })
     ≡ without order (datom_of table c.number) (runs_datoms order table r))
 removed_runs order table r c newest count are member removes there newest_is count_is =
     let d = datom_of table c.number in
-    let base = named table r.settled in
+    let base = settled_datoms order table r.middle r.settled in
     let runs = runs_datoms order table r in
-    let base_within : IsWithin table base = members_within order table r.settled are.settled in
+    let base_rises : IsRising order base = settled_rises order table r.middle r.settled are.single are.settled in
+    let base_within : IsWithin table base = settled_within order table r.middle r.settled are.single are.settled in
     let may0 : MayChange order table (removed table r.newest) (added table r.newest) base =
-    may_change order table r.newest base are.newest are.settled.rising base_within in
+    may_change order table r.newest base are.newest base_rises base_within in
     let rises : IsRising order runs = changed_rises order table (removed table r.newest) (added table r.newest) base are.single may0 in
     let within : IsWithin table runs = changed_within order table (removed table r.newest) (added table r.newest) base are.single may0 in
     let goes : removed table (c ∷ []) ≡ d ∷ [] = rw removes refl in
@@ -151,7 +200,7 @@ removed_runs order table r c newest count are member removes there newest_is cou
     subst (λ (l : List Datom). MayChange order table l (added table (c ∷ [])) runs) (sym goes)
     (subst (λ (l : List Datom). MayChange order table (d ∷ []) l runs) (sym comes) plain) in
     let put : IsPut order table r.newest c base (with_change order table r.newest c) =
-    put_is order table r.newest c base are.single member are.newest are.settled.rising base_within may1 in
+    put_is order table r.newest c base are.single member are.newest base_rises base_within may1 in
     let sum : changed_by order table (c ∷ []) runs ≡ without order d runs =
     ap (λ (l : List Datom). changed order l (added table (c ∷ [])) runs) goes
     ∙ ap (λ (l : List Datom). changed order (d ∷ []) l runs) comes

@@ -4,4 +4,8 @@ pub mod Members
 pub mod Changes
 pub mod Parts
 pub mod Runs
+pub mod Merged
 pub mod Walks
+pub mod Bounds
+pub mod Mates
+pub mod Seeks

@@ -1,9 +1,10 @@
 //! What runs are made of: numbers of datoms in a table, each with the first bits of its datom's key.
-ghost use Rattle.std.specs.Prelude.{◌≡◌, ◌<◌, ◌≤◌, true, false, length};
-ghost use Rattle.std.specs.List.{All};
+ghost use Rattle.std.specs.Prelude.{◌≡◌, ◌<◌, ◌≤◌, true, false, drop, length};
+ghost use Rattle.std.specs.List.{All, slice_get};
 ghost use Rattle.fb_values.specs.Orders.{key_cmp};
 ghost use Rattle.fb_values.specs.Rising.{IsRising};
 ghost use Rattle.fb_search.specs.Places.{is_below, place_of, probe_of};
+ghost use Rattle.live_runs.specs.Changes.{is_met};
 ghost use Rattle.live_runs.specs.Members.{IsMember, datom_of, held_by, changing};
 
 use crate::table::Table;
@@ -146,4 +147,26 @@ pub fn place_among<N: Numbered>(table: &Table, order: Order, others: &[N], m: &M
         }
     }
     from
+}
+
+/// Whether the change at a place is of a member's datom.
+pub fn is_met(table: &Table, order: Order, changes: &[Change], place: usize, m: &Member) -> bool
+    requires changes { All (λ c. IsMember order table.now (changing c)) changes.now }
+    requires member { IsMember order table.now m.now }
+    ensures { result ≡ is_met order table.now m.now.number (slice_get changes.now place) }
+{
+    match changes.get(place) {
+        None => false,
+        Some(change) => cmp_members(table, order, &change.member(), m) == Ordering::Equal,
+    }
+}
+
+/// All but the first.
+pub fn without_first<T>(xs: &[T]) -> &[T]
+    ensures { result.now ≡ drop 1 xs.now }
+{
+    match xs.split_first() {
+        Some((_, rest)) => rest,
+        None => xs,
+    }
 }

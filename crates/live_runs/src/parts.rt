@@ -3,7 +3,7 @@ ghost use Rattle.std.specs.Prelude.{◌≡◌, ◌+◌, ◌<◌, ◌≤◌, ◌�
 ghost use Rattle.std.specs.List.{All};
 ghost use Rattle.live_runs.specs.Parts.{AreFull, IsJoined, IsPart, members_in, members_of};
 
-use crate::members::Member;
+use crate::members::{Member, Numbered};
 use fb_chunks::{Share, Shared};
 use fb_memory::Memory;
 use std::alloc::Global;
@@ -30,6 +30,15 @@ impl Part {
             first: self.first,
             members: self.members.share()?,
         })
+    }
+}
+
+/// A part is searched for by its first member.
+impl Numbered for Part {
+    ghost member_of = { λ p. p.first };
+
+    fn member(&self) -> Member {
+        self.first
     }
 }
 
@@ -76,6 +85,7 @@ impl Parts {
     pub(crate) fn parts(&self) -> &[Part]
         ensures members { members_of result.now ≡ self.now }
         ensures parts { All IsPart result.now }
+        ensures full { AreFull result.now }
     {
         self.parts.as_slice()
     }

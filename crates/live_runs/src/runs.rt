@@ -1,45 +1,50 @@
 //! The datoms of one order.
 ghost use Rattle.std.specs.Prelude.{◌≡◌, ◌+◌, ◌<◌, ◌≤◌, true, false, [], length, List, Contains, IfOk, OnOk};
-ghost use Rattle.std.specs.List.{All, slice_get};
+ghost use Rattle.std.specs.List.{All};
 ghost use Rattle.fb_values.specs.declared.facts.Datom.{Datom as ModelDatom};
 ghost use Rattle.fb_values.specs.declared.indexes.Order.{Order as ModelOrder};
 ghost use Rattle.fb_values.specs.Rising.{IsRising};
 ghost use Rattle.fb_model.specs.Rising.{put_in_order};
 ghost use Rattle.live_runs.specs.Changed.{HasNoTwins, without};
-ghost use Rattle.live_runs.specs.Changes.{AreChanges, AreMembers, changed_by, is_met, with_change};
+ghost use Rattle.live_runs.specs.Changes.{AreChanges, AreMembers, changed_by, with_change};
 ghost use Rattle.live_runs.specs.Members.{IsMember, changing, datom_of, held_by, named};
-ghost use Rattle.live_runs.specs.Parts.{IsPart, members_of};
-ghost use Rattle.live_runs.specs.Runs.{AreRuns, Layers, runs_datoms, settled_members};
+ghost use Rattle.live_runs.specs.Parts.{AreFull, IsPart, members_of};
+ghost use Rattle.live_runs.specs.Runs.{AreRuns, IsSettled, Layers, middle_changes, runs_datoms, settled_datoms, settled_members};
 
-use crate::members::{Change, Member, Numbered, cmp_members, place_among};
+use crate::members::{Change, Member, Numbered, is_met, place_among};
 use crate::parts::{Part, Parts};
+use crate::settled::Settled;
 use crate::table::Table;
 use fb_chunks::{Share, Shared};
 use fb_memory::Memory;
 use fb_values::Order;
 use std::alloc::Global;
-use std::cmp::Ordering;
 use std::marker::Model;
 
 /// So many of the newest changes wait until they are settled together.
 const NEWEST: usize = 31;
 
-/// Datoms of a table in an order of the indexes: a list in parts, which copies share, and its newest changes.
+/// Datoms of a table in an order of the indexes: what is settled, which copies share, and the newest changes of it.
 #[derive(Drop)]
 pub struct Runs {
     newest: Vec<Change>,
-    settled: Option<Shared<Parts>>,
+    settled: Option<Shared<Settled>>,
     len: usize,
 }
 
 impl Model for Runs {
     ghost use Rattle.std.specs.Prelude.{◌≤◌, length};
     ghost use Rattle.live_runs.specs.declared.runs.TheConstants.{NEWEST};
-    ghost use Rattle.live_runs.specs.Runs.{Layers, settled_members};
+    ghost use Rattle.live_runs.specs.Runs.{Layers, middle_changes, settled_members};
 
     ghost Value = { Layers };
 
-    ghost view = { λ r. record { newest = r.newest.items; settled = settled_members r.settled; count = r.len } };
+    ghost view = { λ r. record {
+      newest = r.newest.items;
+      middle = middle_changes r.settled;
+      settled = settled_members r.settled;
+      count = r.len;
+    } };
 
     ghost invariant = { λ r. length r.newest.items ≤ NEWEST };
 }
@@ -68,10 +73,12 @@ impl Runs {
             → runs_datoms order table r ≡ named table members.now) }
     {
         let parts = Parts::empty(alloc).with_all(members)?;
+        let len = parts.len();
+        let settled = Settled::of_parts(alloc, parts)?;
         Ok(Runs {
             newest: Vec::new(alloc),
-            len: parts.len(),
-            settled: Some(Shared::new(alloc, parts)?),
+            settled: Some(Shared::new(alloc, settled)?),
+            len,
         })
     }
 
@@ -95,18 +102,29 @@ impl Runs {
     }
 
     pub(crate) fn newest(&self) -> &[Change]
-        ensures { result.now ≡ self.now.newest }
+        ensures changes { result.now ≡ self.now.newest }
+        ensures few { length result.now ≤ NEWEST }
     {
         self.newest.as_slice()
+    }
+
+    pub(crate) fn middle(&self) -> &[Change]
+        ensures { result.now ≡ self.now.middle }
+    {
+        match &self.settled {
+            None => &[],
+            Some(settled) => settled.get().middle.as_slice(),
+        }
     }
 
     pub(crate) fn parts(&self) -> &[Part]
         ensures members { members_of result.now ≡ self.now.settled }
         ensures parts { All IsPart result.now }
+        ensures full { AreFull result.now }
     {
         match &self.settled {
             None => &[],
-            Some(parts) => parts.get().parts(),
+            Some(settled) => settled.get().parts.get().parts(),
         }
     }
 
@@ -151,10 +169,10 @@ impl Runs {
             return Ok(self);
         }
         let alloc = *self.newest.allocator();
-        let parts = settled_with(alloc, &self.settled, table, order, &self.newest)?;
+        let settled = settled_with(alloc, &self.settled, table, order, &self.newest, self.len)?;
         Ok(Runs {
             newest: Vec::with_capacity(alloc, NEWEST)?,
-            settled: Some(Shared::new(alloc, parts)?),
+            settled: Some(Shared::new(alloc, settled)?),
             len: self.len,
         })
     }
@@ -213,33 +231,42 @@ impl Runs {
     }
 }
 
-fn share(settled: &Option<Shared<Parts>>) -> Result<Option<Shared<Parts>>, Memory>
+fn share(settled: &Option<Shared<Settled>>) -> Result<Option<Shared<Settled>>, Memory>
     ensures { IfOk result (λ copy. copy ≡ settled.now) }
 {
     match settled {
         None => Ok(None),
-        Some(parts) => Ok(Some(parts.share()?)),
+        Some(settled) => Ok(Some(settled.share()?)),
     }
 }
 
+/// What is settled, with the newest changes, with which there are `len` datoms.
 fn settled_with(
     alloc: Global,
-    settled: &Option<Shared<Parts>>,
+    settled: &Option<Shared<Settled>>,
     table: &Table,
     order: Order,
     newest: &[Change],
-) -> Result<Parts, Memory>
+    len: usize,
+) -> Result<Settled, Memory>
     requires single { HasNoTwins table.now }
-    requires members { AreMembers order table.now (settled_members settled.now) }
-    requires changes { AreChanges order table.now newest.now
-        (named table.now (settled_members settled.now)) }
-    ensures members { IfOk result (λ p. AreMembers order table.now p) }
-    ensures datoms { IfOk result (λ p. named table.now p
-        ≡ changed_by order table.now newest.now (named table.now (settled_members settled.now))) }
+    requires settled { IsSettled order table.now (middle_changes settled.now) (settled_members settled.now) }
+    requires newest { AreChanges order table.now newest.now
+        (settled_datoms order table.now (middle_changes settled.now) (settled_members settled.now)) }
+    requires len { len ≡ length (changed_by order table.now newest.now
+        (settled_datoms order table.now (middle_changes settled.now) (settled_members settled.now))) }
+    ensures settled { IfOk result (λ s. IsSettled order table.now s.middle.items s.parts) }
+    ensures datoms { IfOk result (λ s. settled_datoms order table.now s.middle.items s.parts
+        ≡ changed_by order table.now newest.now
+        (settled_datoms order table.now (middle_changes settled.now) (settled_members settled.now))) }
 {
     match settled {
-        None => Parts::empty(alloc).with_changes(table, order, newest),
-        Some(parts) => parts.get().with_changes(table, order, newest),
+        None => {
+            let parts = Parts::empty(alloc).with_changes(table, order, newest)?;
+            let settled = Settled::of_parts(alloc, parts)?;
+            Ok(settled)
+        }
+        Some(settled) => settled.get().with_changes(table, order, newest, len),
     }
 }
 
@@ -260,16 +287,4 @@ fn put(changes: &mut Vec<Change>, table: &Table, order: Order, change: Change) -
         changes.insert(place, change)?;
     }
     Ok(())
-}
-
-/// Whether the change at a place is of a member's datom.
-fn is_met(table: &Table, order: Order, changes: &[Change], place: usize, m: &Member) -> bool
-    requires changes { All (λ c. IsMember order table.now (changing c)) changes.now }
-    requires member { IsMember order table.now m.now }
-    ensures { result ≡ is_met order table.now m.now.number (slice_get changes.now place) }
-{
-    match changes.get(place) {
-        None => false,
-        Some(change) => cmp_members(table, order, &change.member(), m) == Ordering::Equal,
-    }
 }

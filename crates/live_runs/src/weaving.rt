@@ -1,10 +1,10 @@
 //! Sorted members with changes.
-ghost use Rattle.std.specs.Prelude.{◌≡◌, ◌++◌, drop, IfOk, OnOk};
+ghost use Rattle.std.specs.Prelude.{◌≡◌, ◌++◌, IfOk, OnOk};
 ghost use Rattle.live_runs.specs.Changed.{HasNoTwins};
 ghost use Rattle.live_runs.specs.Changes.{AreChanges, AreMembers, behind, changed_by, taken};
 ghost use Rattle.live_runs.specs.Members.{IsMember, changing, named};
 
-use crate::members::{Change, Member, Numbered, place_among};
+use crate::members::{Change, Member, Numbered, place_among, without_first};
 use crate::table::Table;
 use fb_memory::Memory;
 use fb_values::Order;
@@ -57,14 +57,5 @@ fn taken_over<'a>(
     } else {
         all.push(member)?;
         Ok(behind)
-    }
-}
-
-fn without_first(members: &[Member]) -> &[Member]
-    ensures { result.now ≡ drop 1 members.now }
-{
-    match members.split_first() {
-        Some((_, rest)) => rest,
-        None => members,
     }
 }

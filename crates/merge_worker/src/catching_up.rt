@@ -7,7 +7,6 @@ ghost use Rattle.merge_worker.specs.Work.{IsSameWorker, AreStill};
 
 use crate::working::is_out_of_turns;
 use fb_conn::{Conn, Seat};
-use fb_core::caught_up;
 use fb_log::Log;
 use fb_memory::Memory;
 use fb_view::Snapshot;
@@ -98,7 +97,7 @@ fn catches_up<L: Log, R: Wait>(
     if is_near(ahead, &latest) {
         return Ok(false);
     }
-    *ahead = caught_up(ahead, &latest)?;
+    *ahead = ahead.caught_up(&latest)?;
     Ok(true)
 }
 

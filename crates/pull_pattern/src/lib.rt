@@ -9,7 +9,7 @@ mod patterns;
 mod reading;
 mod stops;
 
-pub use names::Name;
+pub use names::{Name, is_reversed};
 pub use patterns::{Below, Item, Label, Limit, Options, Pattern};
 pub use reading::read_pattern;
 pub use stops::PatternStop;

@@ -73,7 +73,8 @@ fn copy_text(text: &Option<Text>) -> Result<Option<Text>, Memory>
     }
 }
 
-fn is_reversed(name: &str) -> bool
+/// Whether the name means the entities that refer to the one that is pulled.
+pub fn is_reversed(name: &str) -> bool
     ensures { result ≡ model_is_reversed name.now }
 {
     begins_with_one_of(b"_", local_name(name).as_bytes())

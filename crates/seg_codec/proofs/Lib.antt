@@ -1,6 +1,8 @@
+pub mod Alike
 pub mod Among
 pub mod Counted
 pub mod Finding
+pub mod Held
 pub mod InNodes
 pub mod Kept
 pub mod LackingIds
@@ -12,3 +14,4 @@ pub mod Reaching
 pub mod RecordFields
 pub mod Rows
 pub mod SeveralOver
+pub mod Wholes

@@ -1,5 +1,5 @@
 -- A record, read field by field.
-use Rattle.std.proofs.Common.{◌≡◌, ◌-◌, ℕ, suc, List, [], ◌∷◌, ◌++◌, length, take, drop, refl, sym, ◌∙◌, ap, subst, arith, length-drop}
+use Rattle.std.proofs.Common.{◌≡◌, ◌-◌, ℕ, suc, List, [], ◌∷◌, ◌++◌, length, map, take, drop, refl, sym, ◌∙◌, ap, subst, arith, length-drop}
 use Rattle.std.specs.Prelude.{fold}
 use Rattle.std.proofs.lemmas.List.{append-nil}
 use Rattle.std.proofs.Math.Seq.{take-append_seam}
@@ -13,9 +13,13 @@ use Rattle.fb_codec.specs.Answers.{Misses}
 use Rattle.fb_codec.specs.declared.faults.BytesFault.{BytesFault}
 use Rattle.fb_codec.specs.declared.faults.BytesFault.TheVariants.{At, Memory}
 use Rattle.seg_tree.specs.declared.roots.Roots.{Roots as SegRoots}
+use Rattle.seg_codec.specs.declared.wanted.Wanted.{Wanted}
 use Rattle.seg_codec.specs.Trees.{AreTreesOf}
+use Rattle.seg_codec.specs.Wanted.{held_leaf, with_held}
 use Rattle.seg_codec.specs.Answers.{IsGrown, IsMerged, MatchesBad}
 use Rattle.seg_codec.proofs.Kept.{with_leaves, with_directories}
+use Rattle.seg_codec.proofs.Alike.{AreAlike, directories_more, directories_same, roots_same}
+use Rattle.seg_codec.proofs.Held.{leaves_alike, held_reading, fold_held}
 use Rattle.seg_codec.proofs.SeveralOver.{with_front, with_none, one_more, then_misses, same_misses, end_misses, mapped_misses}
 
 -- ---- readings and faults
@@ -35,7 +39,7 @@ tells_bad payload Memory reading misses = tt
 
 -- ---- the fields of a record
 
-module _ (nodes : Nodes) (payload : List ℕ) where
+module _ (wanted : Wanted) (nodes : Nodes) (payload : List ℕ) where
   abbrev with_roots : ℕ → List Leaf → List Directory → Roots → MergeRecord
   with_roots c leaves directories roots = record { c = c; leaves = leaves; directories = directories; roots = roots }
 
@@ -71,16 +75,32 @@ module _ (nodes : Nodes) (payload : List ℕ) where
       behind_c : read_record nodes payload ≡ at_end (leaves_field format c (drop b2 payload))
       behind_c = behind_format ∙ ap (λ r. at_end (and_then r (leaves_field format))) c_is
 
-      pub bad_leaves : (fault : BytesFault) → Misses payload fault (read_list is_u32 (read_leaf format) with_leaf nodes (drop b2 payload))
+      pub bad_leaves : (fault : BytesFault)
+          → Misses payload fault (read_list is_u32 (read_leaf format) (with_held wanted) nodes (drop b2 payload))
           → MatchesBad fault (record_says nodes payload)
       bad_leaves fault misses = tells_bad payload fault (read_record nodes payload)
-          (same_misses payload fault _ _ behind_c (end_misses payload fault _ (then_misses payload fault _ (directories_field c) misses)))
+          (same_misses payload fault _ _ behind_c (end_misses payload fault _ (then_misses payload fault _ (directories_field c)
+          (same_misses payload fault _ _ (sym (held_reading wanted format nodes (drop b2 payload))) misses))))
 
       module _ (leaves : List Leaf) (b3 : ℕ)
-          (leaves_are : read_list is_u32 (read_leaf format) with_leaf nodes (drop b2 payload) ≡ found leaves (drop b3 payload))
-          (mid : Nodes) (mid_is : mid ≡ fold with_leaf nodes leaves) where
+          (leaves_are : read_list is_u32 (read_leaf format) (with_held wanted) nodes (drop b2 payload) ≡ found leaves (drop b3 payload))
+          (mid : Nodes) (mid_is : mid ≡ fold (with_held wanted) nodes leaves) where
+        -- the nodes with all that the record says
+        abbrev full : Nodes
+        full = fold with_leaf nodes leaves
+
         behind_leaves : read_record nodes payload ≡ at_end (directories_field c leaves (drop b3 payload))
-        behind_leaves = behind_c ∙ ap (λ r. at_end (and_then r (directories_field c))) leaves_are
+        behind_leaves =
+            behind_c
+            ∙ ap (λ r. at_end (and_then r (directories_field c))) (sym (held_reading wanted format nodes (drop b2 payload)) ∙ leaves_are)
+
+        mid_alike : AreAlike mid full
+        mid_alike = subst (λ (n : Nodes). AreAlike n full) (sym mid_is)
+            (leaves_alike wanted nodes nodes leaves (record { leaves = refl; directories = refl }))
+
+        same_directories : read_list is_u32 read_directory with_directory full (drop b3 payload)
+            ≡ read_list is_u32 read_directory with_directory mid (drop b3 payload)
+        same_directories = sym (directories_same mid full (drop b3 payload) mid_alike)
 
         pub bad_directories : (fault : BytesFault)
             → Misses payload fault (read_list is_u32 read_directory with_directory mid (drop b3 payload))
@@ -88,24 +108,27 @@ module _ (nodes : Nodes) (payload : List ℕ) where
         bad_directories fault misses =
             tells_bad payload fault (read_record nodes payload)
             (same_misses payload fault _ _ behind_leaves (end_misses payload fault _ (then_misses payload fault _ (roots_field c leaves)
-            (subst (λ n. Misses payload fault (read_list is_u32 read_directory with_directory n (drop b3 payload))) mid_is misses))))
+            (same_misses payload fault _ _ same_directories misses))))
 
         module _ (directories : List Directory) (b4 : ℕ)
             (directories_are : read_list is_u32 read_directory with_directory mid (drop b3 payload) ≡ found directories (drop b4 payload))
             (new : Nodes) (new_is : new ≡ fold with_directory mid directories) where
-          whole : new ≡ fold with_directory (fold with_leaf nodes leaves) directories
-          whole = new_is ∙ ap (λ n. fold with_directory n directories) mid_is
+          whole : new ≡ fold with_directory (fold with_leaf nodes (map (held_leaf wanted) leaves)) directories
+          whole = new_is ∙ ap (λ n. fold with_directory n directories) (mid_is ∙ fold_held wanted nodes leaves)
+
+          new_alike : AreAlike new (fold with_directory full directories)
+          new_alike = subst (λ (n : Nodes). AreAlike n (fold with_directory full directories)) (sym new_is)
+              (directories_more mid full directories mid_alike)
 
           behind_directories : read_record nodes payload
               ≡ mapped (with_roots c leaves directories) (at_end (read_roots new (drop b4 payload)))
           behind_directories =
               behind_leaves
-              ∙ ap (λ n. at_end (and_then (read_list is_u32 read_directory with_directory n (drop b3 payload)) (roots_field c leaves)))
-              (sym mid_is)
-              ∙ ap (λ r. at_end (and_then r (roots_field c leaves))) directories_are
+              ∙ ap (λ r. at_end (and_then r (roots_field c leaves))) (same_directories ∙ directories_are)
               ∙ end_of_mapped (with_roots c leaves directories)
-              (read_roots (fold with_directory (fold with_leaf nodes leaves) directories) (drop b4 payload))
-              ∙ ap (λ n. mapped (with_roots c leaves directories) (at_end (read_roots n (drop b4 payload)))) (sym whole)
+              (read_roots (fold with_directory full directories) (drop b4 payload))
+              ∙ ap (λ r. mapped (with_roots c leaves directories) (at_end r))
+              (sym (roots_same new (fold with_directory full directories) new_alike (drop b4 payload)))
 
           pub bad_roots : (fault : BytesFault) → Misses payload fault (at_end (read_roots new (drop b4 payload)))
               → MatchesBad fault (record_says nodes payload)
@@ -113,7 +136,7 @@ module _ (nodes : Nodes) (payload : List ℕ) where
               (same_misses payload fault _ _ behind_directories (mapped_misses (with_roots c leaves directories) payload fault _ misses))
 
           pub merged : (ids : Roots) (trees : SegRoots) → at_end (read_roots new (drop b4 payload)) ≡ found ids []
-              → AreTreesOf new ids trees → IsMerged nodes new (record_says nodes payload) trees c
+              → AreTreesOf new ids trees → IsMerged wanted nodes new (record_says nodes payload) trees c
           merged ids trees roots_are are = record {
             merge = with_roots c leaves directories ids;
             said = ap (merge_said_by payload) (behind_directories ∙ ap (mapped (with_roots c leaves directories)) roots_are);
@@ -127,22 +150,29 @@ module _ (nodes : Nodes) (payload : List ℕ) where
 pub grown_none : (nodes : Nodes) → IsGrown nodes nodes
 grown_none nodes = ([], [], λ i. record { leaves = sym (append-nil nodes.leaves) i; directories = sym (append-nil nodes.directories) i })
 
-pub grown_leaves : (nodes new : Nodes) (leaves : List Leaf) → new ≡ fold with_leaf nodes leaves → IsGrown nodes new
-grown_leaves nodes new leaves is = (
-  leaves,
-  [],
-  is ∙ with_leaves nodes leaves
-      ∙ ap (λ l. record { leaves = nodes.leaves ++ leaves; directories = l }) (sym (append-nil nodes.directories)),
-)
+pub grown_leaves : (wanted : Wanted) (nodes new : Nodes) (leaves : List Leaf) → new ≡ fold (with_held wanted) nodes leaves
+    → IsGrown nodes new
+grown_leaves wanted nodes new leaves is =
+    let held = map (held_leaf wanted) leaves in (
+      held,
+      [],
+      is ∙ fold_held wanted nodes leaves ∙ with_leaves nodes held
+          ∙ ap (λ l. record { leaves = nodes.leaves ++ held; directories = l }) (sym (append-nil nodes.directories)),
+    )
 
-pub grown_both : (nodes mid new : Nodes) (leaves : List Leaf) (directories : List Directory) → mid ≡ fold with_leaf nodes leaves
+grown_behind : (nodes mid new : Nodes) (leaves : List Leaf) (directories : List Directory) → mid ≡ fold with_leaf nodes leaves
     → new ≡ fold with_directory mid directories → IsGrown nodes new
-grown_both nodes mid new leaves directories mid_is new_is = (
+grown_behind nodes mid new leaves directories mid_is new_is = (
   leaves,
   directories,
   new_is ∙ with_directories mid directories
       ∙ ap (λ (n : Nodes). record { leaves = n.leaves; directories = n.directories ++ directories }) (mid_is ∙ with_leaves nodes leaves),
 )
+
+pub grown_both : (wanted : Wanted) (nodes mid new : Nodes) (leaves : List Leaf) (directories : List Directory)
+    → mid ≡ fold (with_held wanted) nodes leaves → new ≡ fold with_directory mid directories → IsGrown nodes new
+grown_both wanted nodes mid new leaves directories mid_is new_is =
+    grown_behind nodes mid new (map (held_leaf wanted) leaves) directories (mid_is ∙ fold_held wanted nodes leaves) new_is
 
 -- the first ones of what grew are those from before
 pub grown_cut : (nodes new : Nodes) (a b : ℕ) → IsGrown nodes new → a ≡ length nodes.leaves → b ≡ length nodes.directories
@@ -153,9 +183,11 @@ grown_cut nodes new a b grown leaves directories =
     λ i. record { leaves = front i; directories = back i }
 
 -- the nodes of a record are more nodes
-pub grown_merged : (old new : Nodes) (says : MergeSays) (trees : SegRoots) (c : ℕ) → IsMerged old new says trees c → IsGrown old new
-grown_merged old new says trees c is =
-    grown_both old (fold with_leaf old is.merge.leaves) new is.merge.leaves is.merge.directories refl is.nodes
+pub grown_merged : (wanted : Wanted) (old new : Nodes) (says : MergeSays) (trees : SegRoots) (c : ℕ)
+    → IsMerged wanted old new says trees c → IsGrown old new
+grown_merged wanted old new says trees c is =
+    let leaves = map (held_leaf wanted) is.merge.leaves in
+    grown_behind old (fold with_leaf old leaves) new leaves is.merge.directories refl is.nodes
 
 -- ---- four roots, one after another
 

@@ -14,6 +14,8 @@ use Rattle.seg_tree.specs.Nodes.{DirectoryNode}
 use Rattle.seg_codec.specs.declared.roots.RootIds.{RootIds}
 use Rattle.seg_codec.specs.Trees.{directory_ids, AreTreesOf}
 use Rattle.seg_codec.specs.InFile.{IsDirectoryOf}
+use Rattle.seg_codec.specs.declared.wanted.Wanted.{Wanted}
+use Rattle.seg_codec.specs.Wanted.{held_merge}
 
 -- one node was read and added, and the place after it is the answer; or none was
 abbrev pub AddsOne : {A : Type 0} → (Nodes → A → Nodes) → List ℕ → Nodes → Nodes
@@ -65,11 +67,12 @@ MatchesRoots nodes bytes (Ok trees) reading =
     (ids : Roots) × (reading ≡ found ids []) × AreTreesOf nodes ids trees
 MatchesRoots nodes bytes (Err fault) reading = Misses bytes fault reading
 
--- the record's nodes were added, and the trees of its roots are the answer
-pub record IsMerged (old new : Nodes) (says : MergeSays) (trees : SegRoots) (c : ℕ) : Type 0 where
+-- the record's nodes were added as they are held, and the trees of its roots are the answer
+pub record IsMerged (wanted : Wanted) (old new : Nodes) (says : MergeSays) (trees : SegRoots)
+    (c : ℕ) : Type 0 where
   pub merge : MergeRecord
   pub said : says ≡ merges merge
-  pub nodes : new ≡ with_nodes old merge
+  pub nodes : new ≡ with_nodes old (held_merge wanted merge)
   pub trees_are : AreTreesOf new merge.roots trees
   pub c_is : c ≡ merge.c
 
@@ -78,11 +81,13 @@ MatchesBad (At byte) says = says ≡ bad_from byte
 MatchesBad Memory says = ⊤
 
 -- what a record says, where nodes were added or some of them up to a fault
-abbrev pub ReadsRecord : Nodes → Nodes → Result (SegRoots × ℕ) BytesFault → MergeSays → Type 0
-ReadsRecord old new (Ok r) says = IsMerged old new says r.0 r.1
-ReadsRecord old new (Err fault) says = IsGrown old new × MatchesBad fault says
+abbrev pub ReadsRecord : Wanted → Nodes → Nodes → Result (SegRoots × ℕ) BytesFault → MergeSays
+    → Type 0
+ReadsRecord wanted old new (Ok r) says = IsMerged wanted old new says r.0 r.1
+ReadsRecord wanted old new (Err fault) says = IsGrown old new × MatchesBad fault says
 
 -- what a record says; a bad one leaves the nodes as they were
-abbrev pub Matches : Nodes → Nodes → Result (SegRoots × ℕ) BytesFault → MergeSays → Type 0
-Matches old new (Ok r) says = IsMerged old new says r.0 r.1
-Matches old new (Err fault) says = (new ≡ old) × MatchesBad fault says
+abbrev pub Matches : Wanted → Nodes → Nodes → Result (SegRoots × ℕ) BytesFault → MergeSays
+    → Type 0
+Matches wanted old new (Ok r) says = IsMerged wanted old new says r.0 r.1
+Matches wanted old new (Err fault) says = (new ≡ old) × MatchesBad fault says

@@ -1,4 +1,5 @@
 pub mod Trees
 pub mod IdPlaces
 pub mod InFile
+pub mod Wanted
 pub mod Answers

@@ -4,12 +4,14 @@ ghost use Rattle.fb_codec.specs.Answers.{Gives, GivesBy};
 ghost use Rattle.log_model.specs.Fields.{that_fits, read_u32, read_u64};
 ghost use Rattle.log_model.specs.Values.{is_format};
 ghost use Rattle.log_model.specs.Storable.{is_u32};
-ghost use Rattle.log_model.specs.Nodes.{Nodes as FileNodes, is_new_id, with_leaf, is_node_length};
+ghost use Rattle.log_model.specs.Nodes.{Nodes as FileNodes, is_new_id, is_node_length};
 ghost use Rattle.log_model.specs.Merges.{several_over, read_list, read_dated, read_leaf};
 ghost use Rattle.seg_codec.specs.Trees.{file_leaf};
+ghost use Rattle.seg_codec.specs.Wanted.{with_held};
 ghost use Rattle.seg_codec.specs.Answers.{AddsOne, Adds};
 
 use crate::nodes::Nodes;
+use crate::wanted::{Wanted, held};
 use fb_codec::{BytesFault, get_datom, get_u32, get_u64, misfit};
 use fb_values::Datom;
 use seg_tree::{Leaf, MOST};
@@ -57,21 +59,22 @@ pub(crate) fn get_new_id(bytes: &[u8], at: usize, nodes: &Nodes) -> Result<(u64,
     Ok((id, next))
 }
 
-/// So many leaves, which are added to the nodes as they are read.
+/// So many leaves, which are added to the nodes as they are read, those whole that are wanted.
 pub(crate) fn get_leaves(
     alloc: Global,
     bytes: &[u8],
     at: usize,
     format: u8,
+    wanted: &Wanted,
     nodes: &mut Nodes,
 ) -> Result<usize, BytesFault>
     requires place { at ≤ length bytes.now }
     requires format { IsTrue (is_format format) }
-    ensures { Adds with_leaf bytes.now nodes.old nodes.new result
-        (read_list is_u32 (read_leaf format) with_leaf nodes.old (drop at bytes.now)) }
+    ensures { Adds (with_held wanted.now) bytes.now nodes.old nodes.new result
+        (read_list is_u32 (read_leaf format) (with_held wanted.now) nodes.old (drop at bytes.now)) }
 {
     let (count, start) = get_count(bytes, at)?;
-    add_leaves(alloc, bytes, start, format, count, nodes)
+    add_leaves(alloc, bytes, start, format, count, wanted, nodes)
 }
 
 fn add_leaves(
@@ -80,16 +83,17 @@ fn add_leaves(
     at: usize,
     format: u8,
     count: u32,
+    wanted: &Wanted,
     nodes: &mut Nodes,
 ) -> Result<usize, BytesFault>
     requires place { at ≤ length bytes.now }
     requires format { IsTrue (is_format format) }
-    ensures { Adds with_leaf bytes.now nodes.old nodes.new result
-        (several_over (read_leaf format) with_leaf nodes.old count (drop at bytes.now)) }
+    ensures { Adds (with_held wanted.now) bytes.now nodes.old nodes.new result
+        (several_over (read_leaf format) (with_held wanted.now) nodes.old count (drop at bytes.now)) }
 {
     let mut end = at;
     for _ in 0..count {
-        let next = add_leaf(alloc, bytes, end, format, nodes)?;
+        let next = add_leaf(alloc, bytes, end, format, wanted, nodes)?;
         end = next;
     }
     Ok(end)
@@ -100,14 +104,16 @@ fn add_leaf(
     bytes: &[u8],
     at: usize,
     format: u8,
+    wanted: &Wanted,
     nodes: &mut Nodes,
 ) -> Result<usize, BytesFault>
     requires place { at ≤ length bytes.now }
     requires format { IsTrue (is_format format) }
-    ensures { AddsOne with_leaf bytes.now nodes.old nodes.new result
+    ensures { AddsOne (with_held wanted.now) bytes.now nodes.old nodes.new result
         (read_leaf format nodes.old (drop at bytes.now)) }
 {
     let (leaf, end) = get_leaf(alloc, bytes, at, format, nodes)?;
+    let leaf = held(alloc, leaf, wanted)?;
     nodes.add_leaf(Arc::new(alloc, leaf)?)?;
     Ok(end)
 }

@@ -10,6 +10,7 @@ mod nodes;
 mod records;
 mod room;
 mod roots;
+mod wanted;
 mod written;
 
 pub use ids::Ids;
@@ -20,4 +21,5 @@ pub use laws::{
 pub use nodes::Nodes;
 pub use records::{is_bad_front, record_of};
 pub use roots::RootIds;
+pub use wanted::Wanted;
 pub use written::record_bytes;

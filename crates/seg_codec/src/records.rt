@@ -10,23 +10,25 @@ use crate::directories::get_directories;
 use crate::leaves::get_leaves;
 use crate::nodes::Nodes;
 use crate::roots::get_roots;
+use crate::wanted::Wanted;
 use fb_codec::{BytesFault, get_format, get_u32, has_whole_field, misfit};
 use fb_memory::Memory;
 use log_model::a_front_tells_a_misfit;
 use seg_tree::Roots;
 use std::alloc::Global;
 
-/// The trees of a record over the nodes before it, and their c. The record's nodes are added; after an error the nodes are
-/// as they were.
+/// The trees of a record over the nodes before it, and their c. The record's nodes are added, those leaves whole that are
+/// wanted; after an error the nodes are as they were.
 pub fn record_of(
     alloc: Global,
     payload: &[u8],
+    wanted: &Wanted,
     nodes: &mut Nodes,
 ) -> Result<(Roots, u32), BytesFault>
-    ensures { Matches nodes.old nodes.new result (record_says nodes.old payload.now) }
+    ensures { Matches wanted.now nodes.old nodes.new result (record_says nodes.old payload.now) }
 {
     let known = nodes.counts();
-    match read_record(alloc, payload, nodes) {
+    match read_record(alloc, payload, wanted, nodes) {
         Ok(found) => Ok(found),
         Err(fault) => {
             nodes.cut(known);
@@ -36,7 +38,12 @@ pub fn record_of(
 }
 
 /// Whether the front of a payload tells that it is no record over the nodes, which stay as they are.
-pub fn is_bad_front(alloc: Global, front: &[u8], nodes: &mut Nodes) -> Result<bool, Memory>
+pub fn is_bad_front(
+    alloc: Global,
+    front: &[u8],
+    wanted: &Wanted,
+    nodes: &mut Nodes,
+) -> Result<bool, Memory>
     ensures bad { IfOk result (λ bad. IsTrue bad → (rest : List ℕ)
         → (byte : ℕ) × (record_says nodes.old (front.now ++ rest) ≡ bad_from byte)) }
     ensures untold { IfOk result (λ bad. bad ≡ false → (byte : ℕ)
@@ -46,7 +53,7 @@ pub fn is_bad_front(alloc: Global, front: &[u8], nodes: &mut Nodes) -> Result<bo
 {
     a_front_tells_a_misfit();
     let known = nodes.counts();
-    match read_record(alloc, front, nodes) {
+    match read_record(alloc, front, wanted, nodes) {
         Ok(_) => {
             nodes.cut(known);
             Ok(false)
@@ -69,12 +76,17 @@ fn is_told(front: &[u8], fault: BytesFault) -> Result<bool, Memory>
     }
 }
 
-fn read_record(alloc: Global, payload: &[u8], nodes: &mut Nodes) -> Result<(Roots, u32), BytesFault>
-    ensures { ReadsRecord nodes.old nodes.new result (record_says nodes.old payload.now) }
+fn read_record(
+    alloc: Global,
+    payload: &[u8],
+    wanted: &Wanted,
+    nodes: &mut Nodes,
+) -> Result<(Roots, u32), BytesFault>
+    ensures { ReadsRecord wanted.now nodes.old nodes.new result (record_says nodes.old payload.now) }
 {
     let (format, behind_format) = get_format(payload, 0)?;
     let (c, behind_c) = get_u32(payload, behind_format)?;
-    let behind_leaves = get_leaves(alloc, payload, behind_c, format, nodes)?;
+    let behind_leaves = get_leaves(alloc, payload, behind_c, format, wanted, nodes)?;
     let behind_directories = get_directories(alloc, payload, behind_leaves, nodes)?;
     let roots = get_last_roots(alloc, payload, behind_directories, nodes)?;
     Ok((roots, c))

@@ -6,7 +6,7 @@ ghost use Rattle.seg_merge.specs.Merged.{is_due, due_of};
 use fb_covers::Covers;
 use fb_memory::Memory;
 use fb_values::{Datom, Order};
-use live_index::{Cursor, Live};
+use live_index::Live;
 use std::alloc::Global;
 
 /// Those of the order's live list up to the transaction, as far as the order's index holds their attributes.
@@ -22,11 +22,7 @@ pub fn due(
     let holding = live.holding().len(order);
     let len = holding.saturating_add(live.past().len(order));
     let mut due = Vec::with_capacity(alloc, len as usize)?;
-    let from = Cursor {
-        holding: 0,
-        past: 0,
-    };
-    let mut walk = live.walk(order, from);
+    let mut walk = live.said(order);
     while let Some(datom) = walk.next() {
         due = with_due(due, order, datom, c, covers)?;
     }

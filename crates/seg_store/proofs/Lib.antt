@@ -1,9 +1,11 @@
 pub mod Fitting
 pub mod Records
+pub mod Holding
 pub mod Keeping
 pub mod Finding
 pub mod Counting
 pub mod Loading
+pub mod Opening
 pub mod Same
 pub mod Next
 pub mod Storable

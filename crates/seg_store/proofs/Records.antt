@@ -1,20 +1,22 @@
 -- One record more behind those that were read: what it keeps, or that it is bad.
 use Rattle.std.proofs.Common.{◌≡◌, ◌≤◌, ◌<◌, ℕ, suc, Bool, true, false, List, [], ◌∷◌, ◌++◌, length, refl, sym, ◌∙◌, ap, subst, arith}
 use Rattle.std.proofs.Common.{length-append}
-use Rattle.std.specs.Prelude.{nat_eq, All}
+use Rattle.std.specs.Prelude.{nat_eq}
 use Rattle.std.proofs.lemmas.Bool.{true≢false, eqb-true, eq-eqb, eqb-false, ne_eqb}
-use Rattle.std.proofs.lemmas.List.{map-append}
-use Rattle.std.proofs.lemmas.List.Elements.{All-push, All-weaker}
-use Rattle.log_model.specs.Nodes.{Nodes, Roots as FileRoots, no_nodes, MergeRecord}
+use Rattle.log_model.specs.Nodes.{Nodes, no_nodes, MergeRecord}
 use Rattle.log_model.specs.Merges.{MergeSays, merges, bad_from, record_says}
-use Rattle.log_model.specs.Kept.{with_nodes, kept_root, kept_by, kept_behind, kept_roots, nodes_by, nodes_behind, nodes_of, are_good}
+use Rattle.log_model.specs.Kept.{KeptRoot, with_nodes, kept_root, kept_by, kept_behind, kept_roots, nodes_by, nodes_behind, nodes_of, are_good}
 use Rattle.log_model.proofs.NodesOfFiles.{one_more_root, one_more_nodes, bad_record_stops, distinct-with, distinct-nodes}
 use Rattle.seg_tree.specs.declared.roots.Roots.{Roots}
+use Rattle.seg_codec.specs.declared.wanted.Wanted.{Wanted}
 use Rattle.seg_codec.specs.Trees.{AreTreesOf}
-use Rattle.seg_codec.proofs.Kept.{trees_later, kept_lists}
+use Rattle.seg_codec.specs.Wanted.{held_nodes}
+use Rattle.seg_codec.proofs.Kept.{kept_lists}
+use Rattle.seg_codec.proofs.Wholes.{trees_held}
 use Rattle.seg_store.specs.declared.loads.KeptTrees.{KeptTrees}
 use Rattle.seg_store.specs.Trees.{root_of}
-use Rattle.seg_store.specs.Loads.{kept_of, AreKept}
+use Rattle.seg_store.specs.Finding.{AreHeld}
+use Rattle.seg_store.proofs.Holding.{held_more, held_over}
 
 -- ---- behind a bad record
 
@@ -80,17 +82,13 @@ bad_good records payload byte good says =
 
 -- ---- what is kept
 
-pub no_roots : AreKept [] []
-no_roots = record { roots = refl; there = λ k d lt. absurd (omega (arith, lt)) }
-
 -- the same roots where neither they nor the nodes change
-pub same_kept : (records more : List (List ℕ)) (kept : List KeptTrees) → kept_roots more ≡ kept_roots records
+pub same_held : (wanted : Wanted) (records more : List (List ℕ)) (kept : List KeptTrees) → kept_roots more ≡ kept_roots records
     → nodes_of more ≡ nodes_of records
-    → AreKept records kept → AreKept more kept
-same_kept records more kept roots nodes are = record {
-  roots = are.roots ∙ sym roots;
-  there = subst (λ (n : Nodes). All (λ trees. (ids : FileRoots) × AreTreesOf n ids trees.roots) kept) (sym nodes) are.there;
-}
+    → AreHeld wanted (nodes_of records) (kept_roots records) kept → AreHeld wanted (nodes_of more) (kept_roots more) kept
+same_held wanted records more kept roots nodes are =
+    subst (λ (r : List KeptRoot). AreHeld wanted (nodes_of more) r kept) (sym roots)
+    (subst (λ (n : Nodes). AreHeld wanted n (kept_roots records) kept) (sym nodes) are)
 
 module _ (records : List (List ℕ)) (payload : List ℕ) (merge : MergeRecord) (good : are_good records ≡ true)
     (says : record_says (nodes_of records) payload ≡ merges merge) where
@@ -104,20 +102,18 @@ module _ (records : List (List ℕ)) (payload : List ℕ) (merge : MergeRecord) 
       let lists = kept_lists next (distinct-with (nodes_of records) payload merge (distinct-nodes records) says) merge trees are in
       λ i. record { lists = lists i; c = sym same i }
 
-  pub one_more_kept : (kept : List KeptTrees) (trees : Roots) (c : ℕ)
-      → AreTreesOf (with_nodes (nodes_of records) merge) merge.roots trees → c ≡ merge.c
-      → AreKept records kept → AreKept (records ++ payload ∷ []) (kept ++ record { roots = trees; c = c } ∷ [])
-  one_more_kept kept trees c are same before = record {
-    roots = map-append kept_of kept (record { roots = trees; c = c } ∷ [])
-        ∙ (λ i. before.roots i ++ sym (root_is trees c are same) i ∷ [])
-        ∙ sym (one_more_root records payload merge good says);
-    there =
-        subst (λ (n : Nodes).
-        All (λ (k : KeptTrees). (ids : FileRoots) × AreTreesOf n ids k.roots) (kept ++ record { roots = trees; c = c } ∷ []))
-        (sym (one_more_nodes records payload merge good says))
-        (All-push (λ (k : KeptTrees). (ids : FileRoots) × AreTreesOf next ids k.roots) kept (record { roots = trees; c = c })
-        (All-weaker (λ (k : KeptTrees). (ids : FileRoots) × AreTreesOf (nodes_of records) ids k.roots)
-        (λ (k : KeptTrees). (ids : FileRoots) × AreTreesOf next ids k.roots)
-        (λ k was. (was.0, trees_later (nodes_of records) merge was.0 k.roots was.1)) kept before.there)
-        (merge.roots, are));
-  }
+  pub one_more_held : (wanted : Wanted) (kept : List KeptTrees) (trees : Roots) (c : ℕ)
+      → AreTreesOf (held_nodes wanted (with_nodes (nodes_of records) merge)) merge.roots trees → c ≡ merge.c
+      → AreHeld wanted (nodes_of records) (kept_roots records) kept
+      → AreHeld wanted (nodes_of (records ++ payload ∷ [])) (kept_roots (records ++ payload ∷ []))
+      (kept ++ record { roots = trees; c = c } ∷ [])
+  one_more_held wanted kept trees c are same before =
+      let more : List KeptTrees = kept ++ record { roots = trees; c = c } ∷ [] in
+      subst (λ (r : List KeptRoot). AreHeld wanted (nodes_of (records ++ payload ∷ [])) r more)
+      (sym (one_more_root records payload merge good says))
+      (subst (λ (n : Nodes). AreHeld wanted n (kept_roots records ++ kept_root next merge ∷ []) more)
+      (sym (one_more_nodes records payload merge good says))
+      (held_more wanted next (kept_roots records) kept (kept_root next merge) (record { roots = trees; c = c })
+      (held_over wanted (nodes_of records) merge (kept_roots records) kept before)
+      (λ all. let whole = trees_held wanted next merge.roots trees are all in
+      (sym (root_is trees c whole same), (merge.roots, whole)))))

@@ -5,10 +5,12 @@ mod counts;
 mod found;
 mod laws;
 mod loads;
+mod newest;
 mod room;
 mod roots;
 mod stores;
 
 pub use laws::{trees_made_of_fitting_ones_fit, trees_of_a_lawful_history_are_storable};
 pub use loads::{KeptTrees, LoadFault, LoadStop, Loaded};
+pub use newest::{Newest, NewestRoot};
 pub use stores::{KeepFault, SegStore};

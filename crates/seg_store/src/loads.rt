@@ -7,6 +7,8 @@ ghost use Rattle.fb_journal.specs.Journals.{StaysKnown};
 ghost use Rattle.fb_journal.specs.Readings.{disk_from, left_in, HasRead, IsFirstFault};
 ghost use Rattle.fb_journal.specs.Starts.{CountsStart};
 ghost use Rattle.fb_journal.specs.declared.starts.StartFault.{StartFault};
+ghost use Rattle.seg_codec.specs.declared.wanted.Wanted.{Wanted};
+ghost use Rattle.seg_codec.specs.declared.wanted.Wanted.TheVariants.{Every};
 ghost use Rattle.seg_store.specs.Stores.{disk_in, StoreKeeps};
 ghost use Rattle.seg_store.specs.Loads.{kept_of, IsLoaded, CountsLoad};
 ghost use Rattle.seg_store.specs.Finding.{HasFound, HasAllFound};
@@ -16,7 +18,7 @@ use crate::stores::SegStore;
 use fb_disk::Disk;
 use fb_journal::{Journal, Mark, Reading, StartFault, StartStop};
 use fb_memory::Memory;
-use seg_codec::Ids;
+use seg_codec::{Ids, Wanted};
 use seg_tree::Roots;
 use std::alloc::Global;
 use thiserror::Error;
@@ -85,7 +87,7 @@ impl<D: Disk> SegStore<D> {
             Ok(file) => file,
             Err(stop) => return loaded_before(alloc, stop),
         };
-        match found_in(alloc, &mut file) {
+        match found_in(alloc, &mut file, Wanted::Every) {
             Ok(found) => loaded_behind(alloc, found, file),
             Err(fault) => Err(LoadStop {
                 fault,
@@ -102,9 +104,9 @@ fn loaded_behind<D: Disk>(
     file: Reading<D>,
 ) -> Result<Loaded<D>, LoadStop<D>>
     requires { (disk : D) × (records : List (List ℕ))
-        × HasAllFound D.bytes D.images D.moment D.images_since disk records file found }
+        × HasAllFound D.bytes D.images D.moment D.images_since Every disk records file found }
     ensures loaded { IfOk result (λ loaded. (disk : D) (records : List (List ℕ))
-        → HasAllFound D.bytes D.images D.moment D.images_since disk records file found
+        → HasAllFound D.bytes D.images D.moment D.images_since Every disk records file found
         → IsLoaded D.bytes D.images (D.bytes disk) loaded) }
     ensures known { IfOk result
         (λ loaded. StaysKnown (D.bytes (disk_from file)) (D.bytes (disk_in loaded.store))) }
@@ -112,7 +114,12 @@ fn loaded_behind<D: Disk>(
         (λ loaded. D.faults (disk_in loaded.store) ≡ D.faults (disk_from file))
         (λ stop. CountsLoad stop.fault (D.faults (disk_from file)) (D.faults stop.disk)) }
 {
-    let Found { nodes, kept, good } = found;
+    let Found {
+        nodes,
+        kept,
+        good,
+        ..
+    } = found;
     if !good {
         return anew(alloc, file.give_back(), kept);
     }
@@ -130,7 +137,10 @@ fn loaded_behind<D: Disk>(
 }
 
 /// What a journal says that did not start.
-fn loaded_before<D: Disk>(alloc: Global, stop: StartStop<D>) -> Result<Loaded<D>, LoadStop<D>>
+pub(crate) fn loaded_before<D: Disk>(
+    alloc: Global,
+    stop: StartStop<D>,
+) -> Result<Loaded<D>, LoadStop<D>>
     ensures loaded { IfOk result (λ loaded. (told : Option (List ℕ))
         → IsFirstFault segments_mark told [] stop.fault
         → IsLoaded D.bytes D.images told loaded) }
@@ -174,17 +184,21 @@ fn anew<D: Disk>(alloc: Global, disk: D, kept: Vec<KeptTrees>) -> Result<Loaded<
     }
 }
 
-/// What the records of a file keep, up to its journal's first fault where it has one.
-fn found_in<D: Disk>(alloc: Global, file: &mut Reading<D>) -> Result<Found, LoadFault>
+/// What the records of a file keep, up to its journal's first fault where it has one, with those leaves whole that are wanted.
+pub(crate) fn found_in<D: Disk>(
+    alloc: Global,
+    file: &mut Reading<D>,
+    wanted: Wanted,
+) -> Result<Found, LoadFault>
     ensures found { IfOk result (λ found. (disk : D)
         → HasRead D.bytes D.images D.moment D.images_since segments_mark disk [] file.old
         → (records : List (List ℕ))
-        × HasAllFound D.bytes D.images D.moment D.images_since disk records file.new found) }
+        × HasAllFound D.bytes D.images D.moment D.images_since wanted disk records file.new found) }
     ensures counted { MatchResult result
         (λ _. D.faults (disk_from file.new) ≡ D.faults (disk_from file.old))
         (λ fault. CountsLoad fault (D.faults (disk_from file.old)) (D.faults (disk_from file.new))) }
 {
-    let mut found = Found::none(alloc);
+    let mut found = Found::none(alloc, wanted);
     let mut payload = Vec::new(alloc);
     while find(alloc, file, &mut payload, &mut found)? {}
     Ok(found)
@@ -203,11 +217,14 @@ fn find<D: Disk>(
         → HasRead D.bytes D.images D.moment D.images_since segments_mark disk records file.old
         → HasRead D.bytes D.images D.moment D.images_since segments_mark disk
         (records ++ whole ∷ []) file.new)
-        × (HasFound records found.old → HasFound (records ++ whole ∷ []) found.new))) }
-    ensures end { IfOk result (λ more. more ≡ false → (disk : D) (records : List (List ℕ))
+        × ((wanted : Wanted) → HasFound wanted records found.old
+        → HasFound wanted (records ++ whole ∷ []) found.new))) }
+    ensures end { IfOk result (λ more. more ≡ false → (wanted : Wanted) (disk : D)
+        (records : List (List ℕ))
         → HasRead D.bytes D.images D.moment D.images_since segments_mark disk records file.old
-        → HasFound records found.old
-        → HasAllFound D.bytes D.images D.moment D.images_since disk records file.new found.new) }
+        → HasFound wanted records found.old
+        → HasAllFound D.bytes D.images D.moment D.images_since wanted disk records file.new
+        found.new) }
     ensures less { IfOk result (λ more. IsTrue more → left_in file.new < left_in file.old) }
     ensures counted { MatchResult result
         (λ _. D.faults (disk_from file.new) ≡ D.faults (disk_from file.old))
@@ -244,12 +261,14 @@ fn pass<D: Disk>(
         → HasRead D.bytes D.images D.moment D.images_since segments_mark disk records file.old
         → HasRead D.bytes D.images D.moment D.images_since segments_mark disk
         (records ++ whole ∷ []) file.new)
-        × (HasFound records found.old → HasFound (records ++ whole ∷ []) found.new))) }
+        × ((wanted : Wanted) → HasFound wanted records found.old
+        → HasFound wanted (records ++ whole ∷ []) found.new))) }
     ensures stays { IfOk result (λ passes. passes ≡ false → (records : List (List ℕ))
         → ((disk : D)
         → HasRead D.bytes D.images D.moment D.images_since segments_mark disk records file.old
         → HasRead D.bytes D.images D.moment D.images_since segments_mark disk records file.new)
-        × (HasFound records found.old → HasFound records found.new)) }
+        × ((wanted : Wanted) → HasFound wanted records found.old
+        → HasFound wanted records found.new)) }
     ensures left { IfOk result (λ passes. passes ≡ false → left_in file.new ≡ left_in file.old) }
     ensures less { IfOk result (λ passes. IsTrue passes → left_in file.new < left_in file.old) }
     ensures counted { MatchResult result

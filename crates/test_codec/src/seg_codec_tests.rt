@@ -4,7 +4,7 @@ ghost use Rattle.seg_codec.specs.Trees.{AreStorable};
 use crate::trees::hi_trees;
 use fb_codec::BytesFault;
 use fb_memory::Memory;
-use seg_codec::{Ids, Nodes, record_bytes, record_of};
+use seg_codec::{Ids, Nodes, Wanted, record_bytes, record_of};
 use seg_tree::Roots;
 use std::alloc::Global;
 use std::test::Fail;
@@ -70,7 +70,7 @@ fn records_take_no_more_room_than_their_bytes(rt: HostRuntime) -> Result<(), Fai
 
 /// The c of a record and the number above the ids of its trees, or the byte at which it breaks.
 fn read(alloc: Global, payload: &[u8], nodes: &mut Nodes) -> Result<Result<(u32, u64), u64>, Fail> {
-    match record_of(alloc, payload, nodes) {
+    match record_of(alloc, payload, &Wanted::Every, nodes) {
         Ok((trees, c)) => Ok(Ok((c, trees.next_id()))),
         Err(BytesFault::At { byte }) => Ok(Err(byte)),
         Err(fault) => Err(fault.into()),

@@ -8,4 +8,6 @@ mod fb_recover_tests;
 #[cfg(test)]
 mod hole_tests;
 #[cfg(test)]
+mod newest_tests;
+#[cfg(test)]
 mod seg_agree_tests;

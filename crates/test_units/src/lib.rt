@@ -16,6 +16,8 @@ mod fb_replies_tests;
 #[cfg(test)]
 mod held_facts_tests;
 #[cfg(test)]
+mod log_sweep_tests;
+#[cfg(test)]
 mod seg_tree_tests;
 #[cfg(test)]
 mod tx_laws_tests;

@@ -41,6 +41,17 @@ module _ (a b c d : Bool) where
       (kept_one 7 b (c ∷ d ∷ []) None b_is (kept_one 8 c (d ∷ []) None c_is (kept_one 9 d [] None d_is refl)))
 
 module _ (a b c d e : Bool) (rest : List Bool) where
+  one : a ≡ false → Some 1 ≡ first_broken 1 (a ∷ b ∷ c ∷ d ∷ e ∷ rest)
+  one is = broken_one 1 a (b ∷ c ∷ d ∷ e ∷ rest) is
+
+  two : a ≡ true → b ≡ false → Some 2 ≡ first_broken 1 (a ∷ b ∷ c ∷ d ∷ e ∷ rest)
+  two a_is is = kept_one 1 a (b ∷ c ∷ d ∷ e ∷ rest) (Some 2) a_is (broken_one 2 b (c ∷ d ∷ e ∷ rest) is)
+
+  three : a ≡ true → b ≡ true → c ≡ false → Some 3 ≡ first_broken 1 (a ∷ b ∷ c ∷ d ∷ e ∷ rest)
+  three a_is b_is is =
+      kept_one 1 a (b ∷ c ∷ d ∷ e ∷ rest) (Some 3) a_is
+      (kept_one 2 b (c ∷ d ∷ e ∷ rest) (Some 3) b_is (broken_one 3 c (d ∷ e ∷ rest) is))
+
   four : a ≡ true → b ≡ true → c ≡ true → d ≡ false → Some 4 ≡ first_broken 1 (a ∷ b ∷ c ∷ d ∷ e ∷ rest)
   four a_is b_is c_is is =
       kept_one 1 a (b ∷ c ∷ d ∷ e ∷ rest) (Some 4) a_is
@@ -90,6 +101,22 @@ module _ (h : List Entry) (entry : Entry) where
   no_later =
       none (has_changes_alone h entry) (has_one_value_each h entry) (has_one_holder_each h entry)
       (has_whole_attributes h entry && has_allowed_changes h entry && has_no_reserved_names h entry && has_own_instant_alone h entry)
+
+  pub first : has_next_t h entry ≡ false → Some 1 ≡ least_law h entry
+  first =
+      one (has_next_t h entry) (has_later_instant h entry) (has_known_numbers h entry && has_installed_attributes h entry)
+      (has_typed_values h entry) (has_datoms_in_order h entry) (later_laws h entry)
+
+  pub second : has_next_t h entry ≡ true → has_later_instant h entry ≡ false → Some 2 ≡ least_law h entry
+  second =
+      two (has_next_t h entry) (has_later_instant h entry) (has_known_numbers h entry && has_installed_attributes h entry)
+      (has_typed_values h entry) (has_datoms_in_order h entry) (later_laws h entry)
+
+  pub third : has_next_t h entry ≡ true → has_later_instant h entry ≡ true
+      → (has_known_numbers h entry && has_installed_attributes h entry) ≡ false → Some 3 ≡ least_law h entry
+  third =
+      three (has_next_t h entry) (has_later_instant h entry) (has_known_numbers h entry && has_installed_attributes h entry)
+      (has_typed_values h entry) (has_datoms_in_order h entry) (later_laws h entry)
 
   pub fourth : has_next_t h entry ≡ true → has_later_instant h entry ≡ true
       → (has_known_numbers h entry && has_installed_attributes h entry) ≡ true → has_typed_values h entry ≡ false

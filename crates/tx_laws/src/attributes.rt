@@ -33,7 +33,7 @@ fn keeps_schema(schema: &Schema, altered: &BTreeMap<u64, Altered>, datoms: &[Dat
     are_whole(schema, altered, datoms) && are_allowed(schema, datoms)
 }
 
-fn keeps_names_and_instants(entry: &Entry, datoms: &[Datom]) -> bool
+pub fn keeps_names_and_instants(entry: &Entry, datoms: &[Datom]) -> bool
     ensures { result ≡ changes.keeps_names_and_instants entry.now datoms.now }
 {
     add_no_reserved_names(datoms) && has_own_instant_alone(entry, datoms)
@@ -83,7 +83,7 @@ fn is_alteration(d: &Datom) -> bool
 }
 
 /// Whether no datom changes what stays as it is.
-fn are_allowed(schema: &Schema, datoms: &[Datom]) -> bool
+pub fn are_allowed(schema: &Schema, datoms: &[Datom]) -> bool
     ensures { result ≡ model.are_allowed schema.now datoms.now }
 {
     for d in datoms {

@@ -9,7 +9,9 @@ ghost use Rattle.fb_model.specs.Facts.{holds};
 ghost use Rattle.fb_model.specs.Laws as model;
 ghost use Rattle.fb_model.specs.Schema.{attribute_of};
 ghost use Rattle.fb_model.specs.Types.{is_of_type as model_is_of_type};
+ghost use Rattle.tx_laws.specs.Own.{IsLatestOf};
 
+use crate::latest::Latest;
 use edn_values::is_of_type;
 use fb_facts::Facts;
 use fb_numbers::{GREATEST_T, MOST_DATOMS, is_instant};
@@ -18,17 +20,18 @@ use fb_values::{Datom, Entry, Order, cmp_in};
 use std::cmp::Ordering;
 
 /// Law 1: whether t is the next one.
-pub fn has_next_t<F: Facts>(entry: &Entry, facts: &F) -> bool
-    ensures { result ≡ model.has_next_t (F.history facts.now) entry.now }
+pub fn has_next_t(entry: &Entry, latest: &Latest) -> bool
+    ensures { (h : List Entry) → IsLatestOf latest.now h → result ≡ model.has_next_t h entry.now }
 {
-    entry.t > 0 && entry.t - 1 == facts.basis() && entry.t <= GREATEST_T
+    entry.t > 0 && entry.t - 1 == latest.basis && entry.t <= GREATEST_T
 }
 
 /// Law 2: whether the instant is above the last one, and in its range.
-pub fn has_later_instant<F: Facts>(entry: &Entry, facts: &F) -> bool
-    ensures { result ≡ model.has_later_instant (F.history facts.now) entry.now }
+pub fn has_later_instant(entry: &Entry, latest: &Latest) -> bool
+    ensures { (h : List Entry) → IsLatestOf latest.now h
+        → result ≡ model.has_later_instant h entry.now }
 {
-    facts.last_instant() < entry.instant && is_instant(entry.instant)
+    latest.instant < entry.instant && is_instant(entry.instant)
 }
 
 /// Law 3: whether each attribute is installed.

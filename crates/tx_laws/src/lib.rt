@@ -5,8 +5,10 @@
 mod altered;
 mod attributes;
 mod datoms;
+mod latest;
 mod laws;
 mod numbers;
 mod values;
 
-pub use laws::lawful;
+pub use latest::Latest;
+pub use laws::{keeps_own_laws, lawful};

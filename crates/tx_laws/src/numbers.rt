@@ -1,10 +1,12 @@
 //! Law 3: each number is that of an entity. New user entities are counted on from the last one without a gap.
-ghost use Rattle.std.specs.Prelude.{◌≡◌, IfOk};
+ghost use Rattle.std.specs.Prelude.{◌≡◌, List, IfOk};
 ghost use Rattle.std.specs.List.{list_all};
+ghost use Rattle.fb_values.specs.declared.facts.Entry.{Entry};
 ghost use Rattle.fb_model.specs.Laws as model;
+ghost use Rattle.tx_laws.specs.Own.{IsLatestOf};
 ghost use Rattle.tx_laws.specs.Users.{added_users, counted_on, is_known as model_is_known, is_known_value as model_is_known_value, is_known_datom as model_is_known_datom};
 
-use fb_facts::Facts;
+use crate::latest::Latest;
 use fb_memory::Memory;
 use fb_numbers::{TRANSACTIONS, is_builtin, transaction_entity, user_number};
 use fb_values::{Datom, Entry, Value};
@@ -20,13 +22,14 @@ struct KnownNumbers {
 }
 
 /// Whether each entity, and each value that is one, is known.
-pub fn has_known_numbers<F: Facts>(alloc: Global, entry: &Entry, facts: &F) -> Result<bool, Memory>
-    ensures { IfOk result (λ are. are ≡ model.has_known_numbers (F.history facts.now) entry.now) }
+pub fn has_known_numbers(alloc: Global, entry: &Entry, latest: &Latest) -> Result<bool, Memory>
+    ensures { IfOk result (λ are. (h : List Entry) → IsLatestOf latest.now h
+        → are ≡ model.has_known_numbers h entry.now) }
 {
     let datoms = entry.datoms.as_slice();
-    let users = users_after(alloc, datoms, facts.issued())?;
+    let users = users_after(alloc, datoms, latest.issued)?;
     let known = KnownNumbers {
-        basis: facts.basis(),
+        basis: latest.basis,
         t: entry.t,
         users,
     };

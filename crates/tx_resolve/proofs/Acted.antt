@@ -1,9 +1,9 @@
 -- What an ask does, where its draft is done: the tempids have the same entities.
-use Rattle.std.proofs.Common.{◌≡◌, ℕ, zero, suc, ◌+◌, ◌<◌, Bool, true, false, cond, List, [], ◌∷◌, length, slice_get, refl, sym, ap, ◌∙◌, arith}
-use Rattle.std.proofs.Common.{suc-ne-zero}
+use Rattle.std.proofs.Common.{◌≡◌, ℕ, zero, suc, ◌+◌, ◌<◌, Bool, true, false, cond, List, [], ◌∷◌, length, slice_get, refl, sym, ap, ◌∙◌}
+use Rattle.std.proofs.Common.{arith, suc-ne-zero}
 use Rattle.std.proofs.lemmas.Bool.{false≢true}
 use Rattle.std.proofs.lemmas.Option.{slice_get_within, slice_get-get_or}
-use Rattle.std.specs.Prelude.{Option, Some, None, option_map, option_and_then, is_some, bytes_eq, nat_eq}
+use Rattle.std.specs.Prelude.{Option, Some, None, option_map, option_and_then, is_some, bytes_eq}
 use Rattle.edn_model.specs.Form as edn
 use Rattle.edn_form.specs.View.{form_of}
 use Rattle.fb_values.specs.declared.facts.Value.{Value}
@@ -185,7 +185,8 @@ module _ (legend : Legend) (db : Db) (names : List model.Name) (tempids : AreTem
   ask_settled (ask.Compares c) (draft.Compares d) r =
       ap is_some (ask_act (ask.Compares c) (draft.Compares d) r)
       ∙ both_there (λ e. acts.compares e (model_attribute d.attribute.now) (drafts.old_value_of entities d.old))
-      (drafts.entity_of entities d.on) (drafts.value_of entities d.new) (whom_has (name_of legend c.on) d.on r.0) (part_has d.attribute.now c.new d.new r.3)
+      (drafts.entity_of entities d.on) (drafts.value_of entities d.new)
+      (whom_has (name_of legend c.on) d.on r.0) (part_has d.attribute.now c.new d.new r.3)
   ask_settled (ask.RetractsEntity on) (draft.RetractsEntity w) r =
       ap is_some (ask_act (ask.RetractsEntity on) (draft.RetractsEntity w) r)
       ∙ is_some_map acts.retracts_entity (drafts.entity_of entities w) (whom_has (name_of legend on) w r)

@@ -1,6 +1,6 @@
 -- What the definitions say of the asks is what the drafts come to.
-use Rattle.std.proofs.Common.{◌≡◌, ℕ, ◌≤◌, Bool, true, false, ◌||◌, cond, List, [], ◌∷◌, ◌++◌, map, filter, length, slice_get, Vec, Global, refl}
-use Rattle.std.proofs.Common.{sym, ap, ◌∙◌, subst, arith, zero-add}
+use Rattle.std.proofs.Common.{◌≡◌, ℕ, ◌≤◌, Bool, true, false, ◌||◌, cond, List, [], ◌∷◌, ◌++◌, map, filter, length, slice_get, Vec, Global}
+use Rattle.std.proofs.Common.{refl, sym, ap, ◌∙◌, subst, arith, zero-add}
 use Rattle.std.specs.Prelude.{Option, Some, None, is_some, option_map, filter_map, flat_map}
 use Rattle.std.specs.List.{list_any, cons_option, All}
 use Rattle.std.proofs.lemmas.Bool.{true≢false}
@@ -11,7 +11,7 @@ use Rattle.std.proofs.lemmas.Grind.{flat_map-append}
 use Rattle.fb_model.specs.History.{users_issued}
 use Rattle.tx_model.specs.Asks as model
 use Rattle.tx_model.specs.Asks.{Name, names_of}
-use Rattle.tx_model.specs.Tempids.{Db, met_after, tempids_in, holders, assigned, number_from, named_tempids, with_texts, by_text}
+use Rattle.tx_model.specs.Tempids.{Db, met_after, tempids_in, holders, assigned, number_from, named_tempids, by_text}
 use Rattle.tx_model.specs.NameRules.{adds_to, finds_none, gives_one_of_two, is_added_to_by_none, breaks_not_an_entity}
 use Rattle.tx_model.specs.NameRules.{breaks_tempid_conflict, breaks_tempid_not_an_entity}
 use Rattle.tx_model.specs.Transaction.{joined, with_names}
@@ -23,10 +23,10 @@ use Rattle.tx_asks.specs.Acts.{Act, act_of, IsSettled, AreActs}
 use Rattle.tx_resolve.specs.declared.drafts.Draft.{Draft}
 use Rattle.tx_resolve.specs.declared.holders.Slot.{Slot}
 use Rattle.tx_resolve.specs.declared.meeting.Met.{Met}
-use Rattle.tx_resolve.specs.Tempids.{Tempid, is_same}
+use Rattle.tx_resolve.specs.Tempids.{Tempid}
 use Rattle.tx_resolve.specs.Whoms.{all_found}
 use Rattle.tx_resolve.specs.Drafts.{is_lost, lost_at, AreFound}
-use Rattle.tx_resolve.specs.Meeting.{tempids_of, met_with, named_places, place_of, asks_in, drafts_in, AreMet}
+use Rattle.tx_resolve.specs.Meeting.{tempids_of, met_with, place_of, asks_in, drafts_in, AreMet}
 use Rattle.tx_resolve.specs.Holders.{no_slot, slot_at, slots_of}
 use Rattle.tx_resolve.specs.Numbers as numbers
 use Rattle.tx_resolve.specs.Numbers.{numbered, with_entity}
@@ -36,7 +36,7 @@ use Rattle.tx_resolve.specs.Settled.{slots_in, entities_in, drafted_acts, told_n
 use Rattle.tx_resolve.proofs.Apart.{distinct_met}
 use Rattle.tx_resolve.proofs.Keeping.{slot_of, length-slots, nothing_known}
 use Rattle.tx_resolve.proofs.Meetings.{some_met, place_at}
-use Rattle.tx_resolve.proofs.InOrder.{numbered_name, told_in_order}
+use Rattle.tx_resolve.proofs.InOrder.{told_in_order}
 use Rattle.tx_resolve.proofs.Places.{name_in, AreMeant, AreTempids, names_are_tempids, all_tempids, all_meant}
 use Rattle.tx_resolve.proofs.Acted.{paired, ask_act}
 use Rattle.tx_resolve.proofs.Numbered.{met_names, met_meant, AreKnown, numbers_same, length-numbered, texts_told, AreIn, all_met}

@@ -34,7 +34,7 @@ use Rattle.tx_resolve.specs.Whoms.{all_found, whom_of}
 use Rattle.tx_resolve.specs.Drafts as drafts
 use Rattle.tx_resolve.specs.Drafts.{is_lost, holder_for}
 use Rattle.tx_resolve.specs.Meeting.{tempid_of, tempids_of_part, tempids_of_old_part, tempids_of, place_of, place_in_ref, place_in_part}
-use Rattle.tx_resolve.specs.Meeting.{place_in_old_part, places_of}
+use Rattle.tx_resolve.specs.Meeting.{place_in_old_part}
 use Rattle.tx_resolve.specs.Holders.{slot_at, has_another}
 use Rattle.tx_resolve.specs.Breaks as breaks
 use Rattle.tx_resolve.proofs.Lookups.{lookup_lost}

@@ -1,7 +1,7 @@
 -- Tempids that are met, one after another, and their places.
 use Rattle.std.proofs.Common.{◌≡◌, ℕ, suc, Bool, true, false, ◌||◌, cond, List, [], ◌∷◌, ◌++◌, length, replicate, slice_get, refl, sym, ap}
 use Rattle.std.proofs.Common.{◌∙◌, subst}
-use Rattle.std.specs.Prelude.{Option, Some, None, option_map, is_some, ⊤}
+use Rattle.std.specs.Prelude.{Some, None, option_map, is_some}
 use Rattle.std.specs.List.{list_any}
 use Rattle.std.proofs.lemmas.List.{length_push, length-replicate, replicate_more}
 use Rattle.tx_model.specs.Tempids.{by_text}

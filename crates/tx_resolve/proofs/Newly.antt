@@ -1,5 +1,5 @@
 -- A tempid that is met: it was met before, or it is kept at the next place.
-use Rattle.std.proofs.Common.{◌≡◌, ℕ, ◌<◌, Bool, true, false, cond, List, [], ◌∷◌, ◌++◌, length, slice_set, refl, sym, ap, ◌∙◌, subst, zero-add}
+use Rattle.std.proofs.Common.{◌≡◌, ℕ, ◌<◌, Bool, true, false, cond, List, [], ◌∷◌, ◌++◌, length, slice_set, refl, sym, ap, ◌∙◌, zero-add}
 use Rattle.std.proofs.Common.{get_or-set_same, get_or-set_other, eqb-true, eq-eqb}
 use Rattle.std.specs.Prelude.{Option, Some, None, slice_index_or, is_some}
 use Rattle.std.specs.BTreeMap.{BTreeMap, get, Updates, insert_entry}

@@ -1,13 +1,13 @@
 -- The tempids of a transaction in order, and their entities.
-use Rattle.std.proofs.Common.{◌≡◌, ℕ, zero, suc, ◌+◌, ◌≤◌, Bool, true, false, not, ◌&&◌, ◌||◌, cond, List, [], ◌∷◌, ◌++◌, map, append_assoc}
-use Rattle.std.proofs.Common.{length, slice_get, refl, sym, ap, ◌∙◌, arith, add-zero, zero-add}
-use Rattle.std.specs.Prelude.{Option, Some, ⊤, unwrap_or}
+use Rattle.std.proofs.Common.{◌≡◌, ℕ, suc, ◌+◌, Bool, true, false, not, ◌&&◌, ◌||◌, cond, List, [], ◌∷◌, ◌++◌, map, append_assoc, length}
+use Rattle.std.proofs.Common.{slice_get, refl, sym, ap, ◌∙◌, arith, add-zero}
+use Rattle.std.specs.Prelude.{Some, ⊤, unwrap_or}
 use Rattle.std.specs.List.{list_any}
 use Rattle.std.proofs.lemmas.Bool.{false≢true}
 use Rattle.std.proofs.lemmas.List.{map-append, append-nil}
 use Rattle.std.proofs.lemmas.List.Folds.{list_any-append}
 use Rattle.fb_numbers.specs.Numbers.{user_entity}
-use Rattle.tx_model.specs.Asks.{Name, Ask, is_tempid, is_same_tempid}
+use Rattle.tx_model.specs.Asks.{Name, Ask}
 use Rattle.tx_model.specs.Tempids.{Db, is_among, met_after, holders, number_from, with_texts}
 use Rattle.tx_model.specs.Tempids as model
 use Rattle.tx_asks.specs.Asks.{Legend, AreApart}

@@ -1,15 +1,13 @@
 -- Tempids as names of the definitions, where the maps without `:db/id` stand at these places.
-use Rattle.std.proofs.Common.{◌≡◌, ℕ, zero, suc, ◌<◌, Bool, true, false, cond, List, [], ◌∷◌, ◌++◌, map, filter, length, slice_get, refl, sym, ap, ◌∙◌}
-use Rattle.std.proofs.Common.{eqb-true, eq-eqb, subst}
-use Rattle.std.proofs.lemmas.Bool.{true≢false}
+use Rattle.std.proofs.Common.{◌≡◌, ℕ, zero, suc, ◌<◌, Bool, true, false, cond, List, [], ◌∷◌, ◌++◌, map, filter, length, slice_get, refl}
+use Rattle.std.proofs.Common.{sym, ap, ◌∙◌, eqb-true, eq-eqb, subst}
 use Rattle.std.proofs.lemmas.Slice.Eq.{bytes_eq-Decides}
 use Rattle.std.proofs.lemmas.Option.{slice_get-map}
 use Rattle.std.proofs.lemmas.List.{map-append}
 use Rattle.std.proofs.lemmas.List.Elements.{filter-append}
-use Rattle.std.specs.Prelude.{Option, Some, None, option_map, nat_eq, bytes_eq, slice_index_or, flat_map, ⊤}
+use Rattle.std.specs.Prelude.{Option, Some, None, nat_eq, bytes_eq, slice_index_or, flat_map, ⊤}
 use Rattle.std.specs.List.{All}
 use Rattle.std.proofs.lemmas.List.Elements.{All-head, All-tail}
-use Rattle.tx_model.specs.Asks as model
 use Rattle.tx_model.specs.Asks.{Name, tempid, nameless, own_tempid, is_tempid, is_same_tempid, names_of, name_of_part}
 use Rattle.tx_asks.specs.declared.asks.Name as asks
 use Rattle.tx_asks.specs.declared.asks.Name.TheVariants as name
@@ -17,7 +15,8 @@ use Rattle.tx_asks.specs.declared.asks.Operand.{Operand}
 use Rattle.tx_asks.specs.declared.asks.Operand.TheVariants as part
 use Rattle.tx_asks.specs.declared.asks.Ask.{Ask}
 use Rattle.tx_asks.specs.declared.asks.Ask.TheVariants as ask
-use Rattle.tx_asks.specs.Asks.{Legend, AreApart, name_of, part_of, old_part_of, ask_of, IsCounted, IsCountedPart, IsCountedOldPart, AreCounted}
+use Rattle.tx_asks.specs.Asks.{Legend, AreApart, name_of, part_of, old_part_of, ask_of, IsCounted, IsCountedPart, IsCountedOldPart}
+use Rattle.tx_asks.specs.Asks.{AreCounted}
 use Rattle.tx_resolve.specs.Tempids.{Tempid, is_same}
 use Rattle.tx_resolve.specs.Tempids as tempids
 use Rattle.tx_resolve.specs.Meeting.{tempid_of, tempids_of_part, tempids_of_old_part, tempids_of}

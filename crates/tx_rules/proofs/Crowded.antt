@@ -164,9 +164,6 @@ module _ (refs : List (Bor Triple)) (i : ℕ) (ref : Bor Triple) (d : Triple) (w
       go (r ∷ rs) zero within is = ap (λ (x : Bor Triple). x.now) (sym is)
       go (r ∷ rs) (suc i) within is = go rs i (omega (arith, within)) is
 
-  pub behind_length : i < length (behind refs)
-  behind_length = subst (λ n. i < n) (sym (length-behind refs)) within
-
 -- ---- of all triples the additions alone
 
 pub any-filter : (p q : Triple → Bool)

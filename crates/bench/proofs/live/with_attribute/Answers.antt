@@ -27,6 +27,9 @@ with_schema_entry-requires-clause-follow c = λ filled g order.
     (filled_older order c.args.after.now c.args.n (list_in c.args.live.now order) (list_in filled order) (c.requires order).older (g order))
     (subst (IsEntry c.args.n) (sym c.entry_of-entry.ensures) c.in_ok-attribute.ensures)
 
+pub with_schema_entry-requires-clause-order : goal.with_schema_entry-requires-clause-order
+with_schema_entry-requires-clause-order c = (subst (IsEntry c.args.n) (sym c.entry_of-entry.ensures) c.in_ok-attribute.ensures).rising
+
 pub returns : goal.returns
 unfolding LiveIsBefore
 returns c =

@@ -16,6 +16,9 @@ with_entry-requires-clause-follow c = λ order.
     follows order c.args.n (list_in c.args.live.now order) c.entry_of-entry.result.datoms c.ranges.n.fits b.rising b.older
     (subst (IsEntry c.args.n) (sym c.entry_of-entry.ensures) c.in_ok-facts.ensures)
 
+pub with_entry-requires-clause-order : goal.with_entry-requires-clause-order
+with_entry-requires-clause-order c = (subst (IsEntry c.args.n) (sym c.entry_of-entry.ensures) c.in_ok-facts.ensures).rising
+
 pub returns : goal.returns
 unfolding LiveIsBefore
 returns c =

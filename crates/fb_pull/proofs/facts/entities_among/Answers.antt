@@ -3,7 +3,8 @@ use Rattle.std.specs.Prelude.{filter_map}
 use Rattle.std.specs.List.{cons_option}
 use Rattle.fb_values.specs.declared.facts.Datom.{Datom}
 use Rattle.fb_model.specs.Schema.{entity_in}
-use Rattle.fb_pull.proofs.Entities.{one_taken, one_passed, none_left}
+use Rattle.fb_pull.specs.Near.{lent}
+use Rattle.fb_pull.proofs.Entities.{one_taken, one_passed, none_left, lent_at, lent_below}
 use Rattle.fb_pull.proofs.facts.entities_among.Goals.{then-d-a+then-left-gt0+in_ok-push_entity, else-d-a}
 use Rattle.fb_pull.proofs.facts.entities_among.Goals.{else-d-a-via-then-d-a+else-left-gt0, else-d-a-via-else-d-a}
 use Rattle.fb_pull.proofs.facts.entities_among.Goals as goal
@@ -17,23 +18,22 @@ one_more (Some n) ns = refl
 
 pub loop-d-preserved : goal.loop-d-preserved
 loop-d-preserved c =
+    let below = lent_below c.args.datoms.now c.loop-d.d-index c.loop-d-test.true in
+    let at = lent_at c.args.datoms.now c.loop-d.d-index c.d-item.result c.loop-d-test.true c.d-item.is in
     elim c.if-d-a.branch [
       | then-d-a+then-left-gt0+in_ok-push_entity w ↦
-          one_taken meant c.args.a c.args.datoms.now c.loop-d.d-index c.d-item.result c.loop-d.left c.if-d-a.left _ _ _
-          c.loop-d-test.true
-          c.d-item.is (filter_map entity_in (c.d-item.result.v ∷ [])) (λ ds. one_more (entity_in c.d-item.result.v) (meant ds))
+          one_taken meant c.args.a (lent c.args.datoms.now) c.loop-d.d-index c.d-item.result.now c.loop-d.left c.if-d-a.left _ _ _
+          below at (filter_map entity_in (c.d-item.result.now.v ∷ [])) (λ ds. one_more (entity_in c.d-item.result.now.v) (meant ds))
           w.if-d-a.true w.if-left-gt0.true w.left-is
           (ap (λ (v : Vec ℕ Global). v.items) w.list-is ∙ w.in_ok-push_entity.ensures)
           c.loop-d.invariant
       | else-d-a w ↦ elim w.else-d-a.branch [
         | else-d-a-via-then-d-a+else-left-gt0 v ↦
-            none_left meant c.args.a c.args.datoms.now c.loop-d.d-index c.d-item.result c.loop-d.left c.if-d-a.left _ _ _
-            c.loop-d-test.true
-            c.d-item.is (zero_of v.if-left-gt0.false) w.left-is (ap (λ (v : Vec ℕ Global). v.items) w.list-is) c.loop-d.invariant
+            none_left meant c.args.a (lent c.args.datoms.now) c.loop-d.d-index c.d-item.result.now c.loop-d.left c.if-d-a.left _ _ _
+            below at (zero_of v.if-left-gt0.false) w.left-is (ap (λ (v : Vec ℕ Global). v.items) w.list-is) c.loop-d.invariant
         | else-d-a-via-else-d-a v ↦
-            one_passed meant c.args.a c.args.datoms.now c.loop-d.d-index c.d-item.result c.loop-d.left c.if-d-a.left _ _ _
-            c.loop-d-test.true
-            c.d-item.is v.if-d-a.false w.left-is (ap (λ (v : Vec ℕ Global). v.items) w.list-is) c.loop-d.invariant
+            one_passed meant c.args.a (lent c.args.datoms.now) c.loop-d.d-index c.d-item.result.now c.loop-d.left c.if-d-a.left _ _ _
+            below at v.if-d-a.false w.left-is (ap (λ (v : Vec ℕ Global). v.items) w.list-is) c.loop-d.invariant
       ]
     ]
   where

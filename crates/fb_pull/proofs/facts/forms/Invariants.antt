@@ -5,4 +5,4 @@ use Rattle.fb_pull.proofs.facts.forms.Given as goal
 
 abbrev pub invariant-loop-d : goal.invariant-loop-d
 invariant-loop-d l =
-    forms_of l.list.items ++ map form_of_value (map (λ d. d.v) (drop l.d-index l.datoms)) ≡ map form_of_value (map (λ d. d.v) l.datoms)
+    forms_of l.list.items ++ map form_of_value (map (λ d. d.now.v) (drop l.d-index l.datoms)) ≡ map form_of_value (map (λ d. d.now.v) l.datoms)

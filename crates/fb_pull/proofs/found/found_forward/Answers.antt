@@ -21,12 +21,19 @@ returns-then-is_ref g c = λ facts sees.
           c.limit_for-limit.ensures (c.in_ok-list.ensures facts sees),
     )
 
+pub returns-then-not-several : goal.returns-then-not-several
+returns-then-not-several g c = λ facts sees.
+    let attribute = c.args.attribute.now in
+    let plain : eqb attribute.kind type_ref ≡ false = sym c.is_ref.ensures ∙ c.if-is_ref.false in
+    finds_values facts c.args.e (model_attribute attribute) (model_options c.args.options.now) c.args.maps _ plain
+    (c.if-not-several.true, c.in_ok-value.ensures facts sees)
+
 pub returns : goal.returns
 returns g c = λ facts sees.
     let attribute = c.args.attribute.now in
     let plain : eqb attribute.kind type_ref ≡ false = sym c.is_ref.ensures ∙ c.if-is_ref.false in
     finds_values facts c.args.e (model_attribute attribute) (model_options c.args.options.now) c.args.maps _ plain (
-      refl,
+      c.if-not-several.false,
       c.in_ok-forms.ensures facts sees
           ∙ values_limited facts c.args.e (model_attribute attribute) (model_options c.args.options.now) c.args.maps c.most_values.result
           (model_limit c.limit_for-limit.result) attribute.many

@@ -1,50 +1,34 @@
 use Rattle.std.proofs.Common.{subst}
 use Rattle.std.proofs.lemmas.Result.{IfOk-weaker}
-use Rattle.seg_store.specs.Stores.{disk_in}
-use Rattle.seg_agree.specs.Newest.{IsNewest}
-use Rattle.fb_recover.proofs.Agreeing.{IfOk-both, told_on, fits_loaded, based_found, based_first}
+use Rattle.seg_store.specs.Loads.{IsLoadedNewest}
 use Rattle.fb_recover.proofs.basing.find_base.Goals as goal
 
-pub with_room-requires-clause-fits : goal.with_room-requires-clause-fits
-with_room-requires-clause-fits g c =
+pub based_on_newest-requires-clause-newest : goal.based_on_newest-requires-clause-newest
+based_on_newest-requires-clause-newest g c =
     let d = g.D.Disk in
-    let loaded = c.in-Ok.loaded in
-    let newest = subst (IsNewest c.args.entries.now loaded.kept.items) c.in-Ok-Some.field-0-is c.in-Ok-Some.ensures in
-    fits_loaded d.bytes d.images (d.bytes c.args.segments) c.args.entries.now loaded c.in-Ok-Some.trees c.in-Ok.ensures.loaded newest.0
+    let known = d.bytes c.args.segments in
+    (known, subst (IsLoadedNewest d.bytes d.images known) c.in-Ok-Root.field-0-is c.in-Ok-Root.ensures.newest)
 
-pub with_room-requires-clause-storable : goal.with_room-requires-clause-storable
-with_room-requires-clause-storable g c =
-    let trees = c.in-Ok-Some.trees in
-    let newest = subst (IsNewest c.args.entries.now c.in-Ok.loaded.kept.items) c.in-Ok-Some.field-0-is c.in-Ok-Some.ensures in
-    c.trees_of_a_lawful_history_are_storable.ensures c.args.entries.now trees.c trees.roots c.requires newest.1.agrees
-
-pub returns-in-Ok-Some-clause-based : goal.returns-in-Ok-Some-clause-based
-returns-in-Ok-Some-clause-based g c =
+pub based_on-requires-clause-loaded : goal.based_on-requires-clause-loaded
+based_on-requires-clause-loaded g c =
     let d = g.D.Disk in
-    let load = c.in-Ok.ensures in
-    let loaded = c.in-Ok.loaded in
-    let room = c.with_room.ensures in
-    let newest = subst (IsNewest c.args.entries.now loaded.kept.items) c.in-Ok-Some.field-0-is c.in-Ok-Some.ensures in
-    IfOk-weaker c.with_room.result _ _
-    (λ b has. based_found d.bytes d.images (d.bytes c.args.segments) c.args.entries.now loaded c.in-Ok-Some.trees b load.loaded load.kept
-    newest has.0 has.1.0 has.1.1.0 has.1.1.1.0 has.1.1.1.1.0 has.1.1.1.1.1.0 room.distinct
-    (told_on (d.bytes c.args.segments) (d.bytes (disk_in loaded.store)) (d.bytes (disk_in b.store)) load.known has.1.1.1.1.1.1))
-    (IfOk-both c.with_room.result _ _ room.trees
-    (IfOk-both c.with_room.result _ _ room.fits
-    (IfOk-both c.with_room.result _ _ room.root
-    (IfOk-both c.with_room.result _ _ room.below
-    (IfOk-both c.with_room.result _ _ room.room (IfOk-both c.with_room.result _ _ room.still room.known))))))
+    let known = d.bytes c.args.segments in
+    (known, (subst (IsLoadedNewest d.bytes d.images known) c.in-Ok-Whole.field-0-is c.in-Ok-Whole.ensures.newest).0)
 
-pub returns-in-Ok-None-clause-based : goal.returns-in-Ok-None-clause-based
-returns-in-Ok-None-clause-based g c =
+pub returns-in-Ok-Root-clause-based : goal.returns-in-Ok-Root-clause-based
+returns-in-Ok-Root-clause-based g c =
     let d = g.D.Disk in
-    let load = c.in-Ok.ensures in
-    let first = c.of_first.ensures in
-    let none = subst (IsNewest c.args.entries.now c.in-Ok.loaded.kept.items) c.in-Ok-None.field-0-is c.in-Ok-None.ensures in
-    IfOk-weaker c.of_first.result _ _
-    (λ b has. based_first d.bytes d.images (d.bytes c.args.segments) c.args.entries.now c.in-Ok.loaded b c.requires load.kept none has.0
-    has.1.0 has.1.1.0 has.1.1.1.0
-    (told_on (d.bytes c.args.segments) (d.bytes (disk_in c.in-Ok.loaded.store)) (d.bytes (disk_in b.store)) load.known has.1.1.1.1))
-    (IfOk-both c.of_first.result _ _ first.empty
-    (IfOk-both c.of_first.result _ _ first.stands
-    (IfOk-both c.of_first.result _ _ first.ids (IfOk-both c.of_first.result _ _ first.few first.known))))
+    let known = d.bytes c.args.segments in
+    let root = subst (IsLoadedNewest d.bytes d.images known) c.in-Ok-Root.field-0-is c.in-Ok-Root.ensures.newest in
+    let stays = rw c.in-Ok-Root.field-0-is at
+    c.in-Ok-Root.ensures.known in
+    IfOk-weaker c.based_on_newest.result _ _ (λ b is. is known root stays) c.based_on_newest.ensures.based
+
+pub returns-in-Ok-Whole-clause-based : goal.returns-in-Ok-Whole-clause-based
+returns-in-Ok-Whole-clause-based g c =
+    let d = g.D.Disk in
+    let known = d.bytes c.args.segments in
+    let whole = subst (IsLoadedNewest d.bytes d.images known) c.in-Ok-Whole.field-0-is c.in-Ok-Whole.ensures.newest in
+    let stays = rw c.in-Ok-Whole.field-0-is at
+    c.in-Ok-Whole.ensures.known in
+    IfOk-weaker c.based_on.result _ _ (λ b is. is known whole.0 whole.1 stays) c.based_on.ensures.based

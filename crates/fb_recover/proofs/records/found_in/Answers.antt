@@ -8,10 +8,10 @@ returns-in-Ok c =
       c.in-Ok.entry,
       c.a_payload_is_its_entrys_bytes.ensures.bytes c.in-Ok.entry payload
           (λ k d below. subst (λ b. b < 256) (get_or_default payload k 0 d below) (omega (arith, c.type_inv.payload k))) c.in-Ok.ensures,
-      c.in_ok-judged-in-Ok.ensures,
+      c.in_ok-push-in-Ok.ensures.items,
     )
 
 pub overflow_add-result : goal.overflow_add-result
 overflow_add-result c =
     let says = rw c.in-Err-At.field-0-is at c.in-Err-At.ensures in
-    omega (arith, c.requires.within, c.a_fault_lies_in_its_payload.ensures c.args.payload.now c.in-Err-At.byte says)
+    omega (arith, c.requires, c.a_fault_lies_in_its_payload.ensures c.args.payload.now c.in-Err-At.byte says)

@@ -1,11 +1,10 @@
 use Rattle.std.proofs.Common.{◌≡◌, ◌++◌, length}
 use Rattle.fb_values.specs.Lists.{list_in}
-use Rattle.live_index.specs.Walks.{at_hand}
 use Rattle.fb_view.proofs.sorting.copied.Given as goal
 
 -- those that were copied and those ahead
-abbrev pub invariant-loop-next : goal.invariant-loop-next
-invariant-loop-next l = l.list.items ++ at_hand l.order (list_in l.live l.order) l.next ≡ list_in l.live l.order
+abbrev pub invariant-loop-datom : goal.invariant-loop-datom
+invariant-loop-datom l = l.list.items ++ l.walk ≡ list_in l.live l.fn.order
 
-abbrev pub decreases-loop-next : goal.decreases-loop-next
-decreases-loop-next l = length (at_hand l.order (list_in l.live l.order) l.next)
+abbrev pub decreases-loop-datom : goal.decreases-loop-datom
+decreases-loop-datom l = length l.walk

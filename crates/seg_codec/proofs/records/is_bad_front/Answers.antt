@@ -8,7 +8,7 @@ pub cut-requires : goal.cut-requires
 cut-requires c =
     subst AreWhole
     (sym (grown_cut c.args.nodes.now c.read_record.new.nodes c.counts-known.result.leaves c.counts-known.result.directories
-    (grown_merged c.args.nodes.now c.read_record.new.nodes _ _ _ c.in-Ok.ensures) c.counts-known.ensures.leaves
+    (grown_merged c.args.wanted.now c.args.nodes.now c.read_record.new.nodes _ _ _ c.in-Ok.ensures) c.counts-known.ensures.leaves
     c.counts-known.ensures.directories))
     c.counts-known.ensures.whole
 
@@ -18,7 +18,7 @@ returns-clause-stays c =
       | in-Ok w ↦ w.nodes-is
           ∙ w.cut.ensures
           ∙ grown_cut c.args.nodes.now c.read_record.new.nodes c.counts-known.result.leaves c.counts-known.result.directories
-          (grown_merged c.args.nodes.now c.read_record.new.nodes _ _ _ w.in-Ok.ensures) c.counts-known.ensures.leaves
+          (grown_merged c.args.wanted.now c.args.nodes.now c.read_record.new.nodes _ _ _ w.in-Ok.ensures) c.counts-known.ensures.leaves
           c.counts-known.ensures.directories
       | in-Err w ↦ w.nodes-is
           ∙ w.cut-in-Err.ensures

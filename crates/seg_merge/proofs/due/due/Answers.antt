@@ -1,17 +1,13 @@
-use Rattle.std.proofs.Common.{◌≡◌, ◌++◌, ◌∷◌, [], ◌∙◌, List, append_assoc, append-nil, ap, sym}
+use Rattle.std.proofs.Common.{◌++◌, ◌∷◌, [], ◌∙◌, List, append_assoc, append-nil, ap, sym}
 use Rattle.std.proofs.lemmas.List.Elements.{filter-append}
 use Rattle.fb_values.specs.declared.facts.Datom.{Datom}
-use Rattle.fb_values.specs.Lists.{list_in}
-use Rattle.live_index.proofs.Halves.{both_of}
 use Rattle.seg_merge.specs.Merged.{is_due, due_of}
 use Rattle.seg_merge.proofs.due.due.Goals as goal
 
 pub loop-datom-init : goal.loop-datom-init
 loop-datom-init c =
-    let all = list_in c.args.live.now c.args.order in
     let due : List Datom → List Datom = due_of c.args.covers.now c.args.c c.args.order in
-    let walked : c.walk-walk.result ≡ all = c.walk-walk.ensures ∙ both_of c.args.order all (c.holding.ensures.rising c.args.order) in
-    ap (λ (ds : List Datom). ds ++ due c.walk-walk.result) c.in_ok-due.ensures.items ∙ ap due walked
+    ap (λ (ds : List Datom). ds ++ due c.said-walk.result) c.in_ok-due.ensures.items ∙ ap due c.said-walk.ensures
 
 pub loop-datom-preserved : goal.loop-datom-preserved
 loop-datom-preserved c =

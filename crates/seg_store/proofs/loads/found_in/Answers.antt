@@ -10,11 +10,11 @@ loop-payload-preserved g c =
       follows = record {
         records = follows.records ++ read.0 ∷ [];
         reads = λ disk has. went.0 disk (follows.reads disk has);
-        has = went.1 follows.has;
+        has = went.1 c.args.wanted follows.has;
       };
     }
 
 pub returns-clause-found : goal.returns-clause-found
 returns-clause-found g c = λ disk has.
     let follows = c.loop-payload.invariant.follows in
-    (follows.records, c.in_ok-find.ensures.end c.if-branch.false disk follows.records (follows.reads disk has) follows.has)
+    (follows.records, c.in_ok-find.ensures.end c.if-branch.false c.args.wanted disk follows.records (follows.reads disk has) follows.has)

@@ -6,7 +6,7 @@ use Rattle.seg_store.proofs.loads.found_in.Given as goal
 abbrev pub invariant-loop-payload : goal.invariant-loop-payload
 invariant-loop-payload g l = record {
   faults : g.D.Disk.faults (disk_from l.file) ≡ g.D.Disk.faults (disk_from l.initial.file);
-  follows : Follows g.D.Disk.bytes g.D.Disk.images g.D.Disk.moment g.D.Disk.images_since l.initial.file l.file l.found;
+  follows : Follows g.D.Disk.bytes g.D.Disk.images g.D.Disk.moment g.D.Disk.images_since l.fn.wanted l.initial.file l.file l.found;
 }
 
 abbrev pub decreases-loop-payload : goal.decreases-loop-payload

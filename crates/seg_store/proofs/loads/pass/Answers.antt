@@ -4,15 +4,15 @@ use Rattle.fb_journal.specs.Readings.{IsFront}
 use Rattle.seg_store.proofs.loads.pass.Goals as goal
 
 pub returns-in-Ok-None-clause-stays : goal.returns-in-Ok-None-clause-stays
-returns-in-Ok-None-clause-stays g c = λ none records. ((λ disk read. c.front.ensures.stays segments_mark disk records read), (λ has. has))
+returns-in-Ok-None-clause-stays g c = λ none records. ((λ disk read. c.front.ensures.stays segments_mark disk records read), (λ wanted has. has))
 
 pub returns-in-Ok-None-2-clause-stays : goal.returns-in-Ok-None-2-clause-stays
-returns-in-Ok-None-2-clause-stays g c = λ none records. ((λ disk read. c.front.ensures.stays segments_mark disk records read), (λ has. has))
+returns-in-Ok-None-2-clause-stays g c = λ none records. ((λ disk read. c.front.ensures.stays segments_mark disk records read), (λ wanted has. has))
 
 pub returns-then-not-branch-clause-stays : goal.returns-then-not-branch-clause-stays
 returns-then-not-branch-clause-stays g c = λ none records. (
   (λ disk read. c.front.ensures.stays segments_mark disk records read),
-  (λ has. c.in_ok-pass.ensures.stays c.if-not-branch.true records has),
+  (λ wanted has. c.in_ok-pass.ensures.stays c.if-not-branch.true wanted records has),
 )
 
 pub returns-clause-record : goal.returns-clause-record
@@ -26,6 +26,6 @@ returns-clause-record g c = λ passes.
             went.1 segments_mark disk records (c.front.ensures.stays segments_mark disk records read)
             (subst (IsFront g.D.Disk.bytes c.front.new.self c.in-Ok-Some.next) (sym c.as_slice-bytes.ensures.value)
             (front segments_mark disk records read).0)),
-        (λ has. c.in_ok-pass.ensures.added c.if-not-branch.false went.0 records has),
+        (λ wanted has. c.in_ok-pass.ensures.added c.if-not-branch.false went.0 wanted records has),
       ),
     )

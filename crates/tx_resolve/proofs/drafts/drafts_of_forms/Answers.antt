@@ -32,7 +32,8 @@ loop-asks-preserved g c =
     record {
       counted = ap (λ n. n + 1) c.loop-asks.invariant.counted;
       found =
-          given_more (λ (form : Vec Draft Global). map Some form.items) (λ (form : Vec Ask Global). map (draft_of db looked_up met) form.items)
+          given_more (λ (form : Vec Draft Global). map Some form.items)
+          (λ (form : Vec Ask Global). map (draft_of db looked_up met) form.items)
           c.args.forms.now c.loop-asks.forms_found.items c.push.new.self.items c.loop-asks.asks-index c.asks-item.result c.in-Some.drafts
           c.loop-asks-test.true c.asks-item.is found c.in_ok-push.ensures.items c.loop-asks.invariant.found;
       lost =

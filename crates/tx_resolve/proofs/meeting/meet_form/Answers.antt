@@ -1,4 +1,4 @@
-use Rattle.std.proofs.Common.{◌≡◌, ◌++◌, [], ◌∷◌, take, flat_map, ap, sym, ◌∙◌, subst}
+use Rattle.std.proofs.Common.{sym, subst}
 use Rattle.tx_resolve.specs.Meeting.{tempids_of, Meets}
 use Rattle.tx_resolve.proofs.Drops.{flat_take}
 use Rattle.tx_resolve.proofs.Meetings.{meets_both}

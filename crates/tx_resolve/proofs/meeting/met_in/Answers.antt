@@ -1,7 +1,6 @@
-use Rattle.std.proofs.Common.{◌≡◌, ◌+◌, List, Vec, Global, ◌++◌, [], take, flat_map, ap, sym, ◌∙◌, subst}
+use Rattle.std.proofs.Common.{◌≡◌, ◌+◌, Vec, Global, ◌++◌, [], take, flat_map, ap, sym, ◌∙◌, subst}
 use Rattle.std.proofs.lemmas.Grind.{flat_map-append}
 use Rattle.tx_asks.specs.declared.asks.Ask.{Ask}
-use Rattle.tx_resolve.specs.Tempids.{Tempid}
 use Rattle.tx_resolve.specs.Meeting.{tempids_of, asks_in, met_with, AreMet}
 use Rattle.tx_resolve.proofs.Drops.{flat_take}
 use Rattle.tx_resolve.proofs.Meetings.{met_with_append}

@@ -29,6 +29,10 @@ lost_is : (db : Db) (met : Met) (found looked_up : List (Option ℕ)) (seen fs :
     → lost_at db found met seen ≡ lost_at db looked_up met fs
 lost_is db met found looked_up seen fs sought is = ap (lost_at db found met) is ∙ ap (λ found. lost_at db found met fs) sought
 
+none_is : (db : Db) (met : Met) (found looked_up : List (Option ℕ)) (seen fs : List (Vec Ask Global)) → found ≡ looked_up → seen ≡ fs
+    → lost_at db found met seen ≡ None → None ≡ lost_at db looked_up met fs
+none_is db met found looked_up seen fs sought is none = sym none ∙ lost_is db met found looked_up seen fs sought is
+
 found_is : (db : Db) (met : Met) (found looked_up : List (Option ℕ)) (seen fs : List (Vec Ask Global)) (gs : List (Vec Draft Global))
     → found ≡ looked_up → seen ≡ fs → AreFound db found met seen gs → AreFound db looked_up met fs gs
 found_is db met found looked_up seen fs gs sought is are =
@@ -116,9 +120,9 @@ returns-clause-unbroken g c =
     let found =
     found_is db met c.as_slice-2.result.now (all_found db refs) c.deref-2.result.now flat.forms.items gs sought c.deref-2.ensures.value
     c.in_ok-drafts.ensures.found in
-    let lost =
-    lost_is db met c.as_slice-2.result.now (all_found db refs) c.deref-2.result.now flat.forms.items sought c.deref-2.ensures.value in
-    let none : None ≡ lost_at db (all_found db refs) met flat.forms.items = sym c.in_ok-drafts.ensures.unbroken ∙ lost in
+    let none =
+    none_is db met c.as_slice-2.result.now (all_found db refs) c.deref-2.result.now flat.forms.items sought c.deref-2.ensures.value
+    c.in_ok-drafts.ensures.unbroken in
     IfOk-weaker c.unless_lacking.result _ _
     (λ answer is asks are. sym (rest_refused nothing db flat asks are met are_met gs found none) ∙ is)
     c.unless_lacking.ensures.unbroken
@@ -140,9 +144,9 @@ returns-clause-refused g c =
     let found =
     found_is db met c.as_slice-2.result.now (all_found db refs) c.deref-2.result.now flat.forms.items gs sought c.deref-2.ensures.value
     c.in_ok-drafts.ensures.found in
-    let lost =
-    lost_is db met c.as_slice-2.result.now (all_found db refs) c.deref-2.result.now flat.forms.items sought c.deref-2.ensures.value in
-    let none : None ≡ lost_at db (all_found db refs) met flat.forms.items = sym c.in_ok-drafts.ensures.unbroken ∙ lost in
+    let none =
+    none_is db met c.as_slice-2.result.now (all_found db refs) c.deref-2.result.now flat.forms.items sought c.deref-2.ensures.value
+    c.in_ok-drafts.ensures.unbroken in
     IfErr-weaker c.unless_lacking.result _ _
     (λ stop told asks are. subst (λ o. StopsBy o stop) (rest_refused nothing db flat asks are met are_met gs found none) told)
     c.unless_lacking.ensures.refused

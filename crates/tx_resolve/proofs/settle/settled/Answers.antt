@@ -1,4 +1,4 @@
-use Rattle.std.proofs.Common.{◌≡◌, ℕ, List, Vec, Global, length, map, filter_map, sym, ap, ◌∙◌}
+use Rattle.std.proofs.Common.{◌≡◌, List, Vec, Global, length, map, filter_map, sym, ap, ◌∙◌}
 use Rattle.std.proofs.lemmas.List.{with_items_is}
 use Rattle.std.specs.Vec.{with_items}
 use Rattle.tx_model.specs.Step.{first_refusal}

@@ -7,6 +7,7 @@ use Rattle.fb_view.specs.SnapshotModel.{SnapshotModel}
 use Rattle.fb_core.specs.declared.shared.CoreParts.{CoreParts}
 use Rattle.fb_core.specs.Cores.{entry_of}
 use Rattle.board_rule.specs.Calls.{view_of}
+use Rattle.fb_conn.specs.declared.home.Kept.{Kept}
 use Rattle.fb_conn.specs.Homes.{marks_of, marks_by}
 use Rattle.fb_conn.proofs.Histories.{follows_lawful}
 use Rattle.fb_conn.proofs.Turning.{holds, is_committed}
@@ -32,6 +33,7 @@ returns-clause-receipt g c =
 pub returns-clause-view : goal.returns-clause-view
 returns-clause-view g c =
     let own = c.requires.draft in let draft = c.args.draft in let home = c.args.held.home in
+    let same : c.deref_mut.result.now ≡ home = c.deref_mut.ensures.value ∙ ap (λ h. h.home) c.held.view_is in
     let grown : c.accept-before.new.self.snapshot.entries ≡ draft.after.entries =
     ap (λ (p : CoreParts). p.snapshot.entries) c.accept-before.ensures.core
     ∙ ap (λ (k : SnapshotModel). k.entries) c.take_tempids-tempids.ensures.after in
@@ -45,5 +47,6 @@ returns-clause-view g c =
     is_committed (view_of c.args.seat.now.board) (view_of c.add-replaced.new.seat)
     (view_of c.end.new.seat) draft.after.entries c.accept-before.new.self.snapshot.entries c.accept-before.new.self.authors
     c.args.self.now.board.table.shared.key.sessions c.basis-t.result u (marks_of home) _
-    c.end.ensures.left adds.2 grown (ap (λ h. marks_of h.home) c.add-replaced.ensures.held ∙ ap (marks_by home.stop) covered)
+    c.end.ensures.left adds.2 grown (ap (λ h. marks_of h.home) c.add-replaced.ensures.held
+    ∙ (ap (λ (k : Kept _). marks_by k.stop c.accept-before.new.self.snapshot.covered) same ∙ ap (marks_by home.stop) covered))
     (omega (arith, at, ap (length {A = Entry}) grown, count, t))

@@ -73,7 +73,7 @@ returns-in-Some-clause-goes_on g c =
     (view_of new.board) turn.entered.0 old.last.entries home.core.snapshot.entries
     home.core.authors (marks_of home) (c.show_latest.ensures.seat ∙ turn.seat) turn.entered.1
     (turn.learns old.last.entries c.requires.seat.0.seen) shown.2 new.last.entries (ap (λ (k : SnapshotModel). k.entries) shown.1)
-    c.basis-basis.ensures.stands.snapshot.history.lawful
+    c.snapshot-latest.ensures.stands.snapshot.history.lawful
 
 pub returns-in-Some-clause-fault : goal.returns-in-Some-clause-fault
 returns-in-Some-clause-fault g c =
@@ -82,14 +82,14 @@ returns-in-Some-clause-fault g c =
     let home = c.enter-held.result.home in
     let turn = c.enter-held.ensures in
     let shown = c.in_ok-snapshot.ensures.shown in
-    let h = home.core.snapshot.entries in let stop = c.in-Some.stop in let is : home.stop ≡ Some stop = c.in-Some.is in
+    let h = home.core.snapshot.entries in let stop = c.in-Some.stop in let is : home.stop ≡ Some stop = sym c.stop.ensures ∙ c.in-Some.is in
     let sound = subst (λ (o : Option Stop). GoesWithLog g.L.Log.keeps g.L.Log.broke home.begun.value h home.log o home.torn) is turn.sound.0 in
     let last = ap (λ (k : SnapshotModel). k.entries) shown.1 in
     is_stopped (board_of old.board) (board_of new.board) (view_of old.board) (view_of c.enter-held.new.seat)
     (view_of new.board) turn.entered.0 old.last.entries h
     home.core.authors (marks_of home) (c.show_latest.ensures.seat ∙ turn.seat) turn.entered.1
     (turn.learns old.last.entries c.requires.seat.0.seen) shown.2 (named_stop stop) (ap (option_map named_stop) is)
-    (sound.0 ∙ IsLawful-length h c.basis-basis.ensures.stands.snapshot.history.lawful) new.last.entries last c.in_ok-snapshot.snapshot
+    (sound.0 ∙ IsLawful-length h c.snapshot-latest.ensures.stands.snapshot.history.lawful) new.last.entries last c.in_ok-snapshot.snapshot
     (ap (λ (k : SnapshotModel). k.entries) shown.0 ∙ sym last)
 
 -- ---- it is refused
@@ -134,7 +134,7 @@ returns-in_ok-snapshot-in-Err-Refused-clause-goes_on g c =
     (view_of new.board) turn.entered.0 old.last.entries home.core.snapshot.entries
     home.core.authors (marks_of home) (c.show_latest-in-Err-Refused.ensures.seat ∙ turn.seat) turn.entered.1
     (turn.learns old.last.entries c.requires.seat.0.seen) shown.2 new.last.entries
-    (ap (λ (k : SnapshotModel). k.entries) shown.1) c.basis-basis.ensures.stands.snapshot.history.lawful
+    (ap (λ (k : SnapshotModel). k.entries) shown.1) c.snapshot-latest.ensures.stands.snapshot.history.lawful
 
 pub returns-in_ok-snapshot-in-Err-Refused-clause-fault : goal.returns-in_ok-snapshot-in-Err-Refused-clause-fault
 returns-in_ok-snapshot-in-Err-Refused-clause-fault g c =
@@ -147,7 +147,8 @@ returns-in_ok-snapshot-in-Err-Refused-clause-fault g c =
     let learns = turn.learns old.last.entries c.requires.seat.0.seen in
     let last : new.last.entries ≡ h = ap (λ (k : SnapshotModel). k.entries) shown.1 in
     let same = c.show_latest-in-Err-Refused.ensures.seat ∙ turn.seat in
-    let none : home.stop ≡ None = c.in_default.is in let asked = form_of c.args.asked.now in let guard = g.G.Guard.bars c.args.guard.now in
+    let none : home.stop ≡ None = sym c.stop.ensures ∙ c.in_default.is in
+    let asked = form_of c.args.asked.now in let guard = g.G.Guard.bars c.args.guard.now in
     let told = rw c.in-Err-Refused.field-0-is at c.in-Err-Refused.ensures in
     record {
       going =
@@ -243,7 +244,7 @@ returns-in-Ok-prepare-clause-goes_on g c =
     let draft = c.in-Ok.draft in
     let h = home.core.snapshot.entries in
     let own = c.in-Ok.ensures.draft in
-    let none : home.stop ≡ None = c.in_default.is in
+    let none : home.stop ≡ None = sym c.stop.ensures ∙ c.in_default.is in
     let learns = turn.learns old.last.entries c.requires.seat.0.seen in
     by_outcome c.append.result ended.accepted ended.stopped
     (λ receipt is. goes_on_committed (board_of old.board) (board_of new.board) (view_of old.board) (view_of c.enter-held.new.seat)
@@ -255,7 +256,7 @@ returns-in-Ok-prepare-clause-goes_on g c =
     (view_of new.board) turn.entered.0 old.last.entries h
     home.core.authors (marks_of home) (ended.seat ∙ turn.seat) turn.entered.1 learns
     (ap (option_map named_stop) none) draft is.2 new.last.entries (ap (λ (k : SnapshotModel). k.entries) is.0)
-    c.basis-basis.ensures.stands.snapshot.history.lawful)
+    c.snapshot-latest.ensures.stands.snapshot.history.lawful)
 
 pub returns-in-Ok-prepare-clause-receipt : goal.returns-in-Ok-prepare-clause-receipt
 returns-in-Ok-prepare-clause-receipt g c =
@@ -267,7 +268,7 @@ returns-in-Ok-prepare-clause-receipt g c =
     let draft = c.in-Ok.draft in
     let h = home.core.snapshot.entries in
     let own = c.in-Ok.ensures.draft in
-    let none : home.stop ≡ None = c.in_default.is in
+    let none : home.stop ≡ None = sym c.stop.ensures ∙ c.in_default.is in
     let learns = turn.learns old.last.entries c.requires.seat.0.seen in
     let reading = to_z w64 (of_z w64 c.now.result) in let fits : FitsSigned w64 c.now.result = search rules in
     let may = subst (g.K.Clock.may_answer c.args.clock.now) (sym (to_z-of_z w64 c.now.result fits)) c.now.ensures in
@@ -290,7 +291,7 @@ returns-in-Ok-prepare-clause-fault g c =
     let draft = c.in-Ok.draft in
     let h = home.core.snapshot.entries in
     let own = c.in-Ok.ensures.draft in
-    let none : home.stop ≡ None = c.in_default.is in
+    let none : home.stop ≡ None = sym c.stop.ensures ∙ c.in_default.is in
     let learns = turn.learns old.last.entries c.requires.seat.0.seen in
     let reading = to_z w64 (of_z w64 c.now.result) in let fits : FitsSigned w64 c.now.result = search rules in
     let may = subst (g.K.Clock.may_answer c.args.clock.now) (sym (to_z-of_z w64 c.now.result fits)) c.now.ensures in

@@ -1,5 +1,7 @@
-use Rattle.std.proofs.Common.{◌≡◌, ◌∙◌, ◌++◌, List, ap, append_assoc}
+use Rattle.std.proofs.Common.{◌≡◌, ◌∙◌, ◌++◌, List, ap, sym, subst, append_assoc}
 use Rattle.fb_values.specs.declared.facts.Entry.{Entry}
+use Rattle.fb_model.specs.History.{basis, upto}
+use Rattle.fb_conn.specs.declared.home.Kept.{Kept}
 use Rattle.fb_conn.proofs.Histories.{begins_there}
 use Rattle.fb_conn.proofs.conn.Conn.publish.Goals as goal
 
@@ -10,4 +12,8 @@ rebase_on-requires g c =
     let seen = (c.enter-held.ensures.learns last c.requires.seat.0.seen).seen in let past = c.requires.ahead in
     let begins : h ≡ first ++ (past.0 ++ seen.0) =
     seen.1 ∙ (ap (λ (l : List Entry). l ++ seen.0) past.1 ∙ append_assoc first past.0 seen.0) in
-    record { begins = begins_there h first (past.0 ++ seen.0) c.basis-basis.ensures.stands.history.lawful begins }
+    record {
+      begins =
+          subst (λ (k : Kept _). upto k.core.snapshot.entries (basis first) ≡ first) (sym (ap (λ h. h.home) c.held.view_is))
+          (begins_there h first (past.0 ++ seen.0) c.basis-basis.ensures.stands.history.lawful begins);
+    }

@@ -16,12 +16,6 @@ returns-then-is_past c =
     (sym c.at.ensures ∙ ap option_copied c.in-Some.is) (sym c.is_past.ensures ∙ c.if-is_past.true) in
     (sym c.loop-d.invariant ∙ none, none)
 
-pub reads-requires-clause-there : goal.reads-requires-clause-there
-reads-requires-clause-there c =
-    let at = rank c.args.self.now.tree.now c.loop-d.place in
-    let there = read_at (tree_datoms c.args.self.now.tree.now) at c.in-Some.d.now (sym c.at.ensures ∙ ap option_copied c.in-Some.is) in
-    (at, there.0, there.1)
-
 pub returns-then-reads : goal.returns-then-reads
 returns-then-reads c =
     let self = c.args.self.now in

@@ -8,8 +8,8 @@ pub returns-in-Entries : goal.returns-in-Entries
 returns-in-Entries c =
     IfOk-weaker c.found_in.result _ _
     (λ found is. λ records have number here.
-    found-more records c.in-Entries.judged c.args.place c.args.payload.now found (subst (HaveFound records) c.in-Entries.is have) number
-    here is)
+    found-more records c.in-Entries.entries.items c.args.place c.args.payload.now found (subst (HaveFound records) c.in-Entries.is have)
+    number here is)
     c.found_in.ensures
 
 pub returns-in-Misfit : goal.returns-in-Misfit

@@ -5,7 +5,7 @@ use Rattle.fb_values.specs.declared.indexes.Order.{Order}
 use Rattle.fb_values.specs.Lists.{list_in}
 use Rattle.live_index.specs.Growth.{HasNoTwins, IsGrown}
 use Rattle.live_index.specs.Standing.{IsNext}
-use Rattle.fb_view.proofs.Standing.{coverage_of}
+use Rattle.fb_view.proofs.Standing.{coverage_of, datoms_rise}
 use Rattle.fb_view.proofs.Refilling.{nothing_refills, coverage_stays, lists_held}
 use Rattle.fb_view.proofs.growth.Recent.grown.Goals as goal
 
@@ -38,6 +38,12 @@ returns-then-not-changes_schema c =
     stands h c.args.older.now.covered (nothing_refills h c.args.self.now c.args.older.now c.args.entry.now follows c.args.after.now after
     none c.covers.result.now c.covers.ensures) follows.stands.history.live_stands)
     c.with_entry.ensures.stands
+
+pub with_entry-requires-clause-order : goal.with_entry-requires-clause-order
+with_entry-requires-clause-order c = datoms_rise c.requires.follows.0 c.args.entry.now c.requires.follows.1.next
+
+pub with_schema_entry-requires-clause-order : goal.with_schema_entry-requires-clause-order
+with_schema_entry-requires-clause-order c = datoms_rise c.requires.follows.0 c.args.entry.now c.requires.follows.1.next
 
 pub with_schema_entry-requires-clause-held : goal.with_schema_entry-requires-clause-held
 with_schema_entry-requires-clause-held c =

@@ -1,6 +1,8 @@
 use Rattle.std.proofs.Common.{[], List, sym, subst}
 use Rattle.fb_values.specs.declared.facts.Datom.{Datom}
+use Rattle.fb_values.specs.declared.indexes.Order.TheVariants.{Eavt}
 use Rattle.fb_values.specs.Lists.{list_in}
+use Rattle.fb_values.specs.Rising.{IsRising}
 use Rattle.live_index.specs.Growth.{IsGrown}
 use Rattle.live_index.specs.Halves.{MayFollow}
 use Rattle.live_index.proofs.Growing.{both_ok}
@@ -23,3 +25,6 @@ returns-clause-stands c =
     stands h at c.args.entry.now c.args.covers.now [] is c.args.self.now was live (λ order.
     subst (λ (ds : List Datom). IsGrown order c.args.covers.now (list_in c.args.self.now order) [] ds (list_in live order))
     c.as_slice.ensures (grown order))) c.grown.ensures c.grown.ensures
+
+pub grown-requires-clause-order : goal.grown-requires-clause-order
+grown-requires-clause-order c = subst (IsRising Eavt) (sym c.as_slice.ensures) c.requires.order

@@ -1,7 +1,9 @@
 use Rattle.std.proofs.Common.{◌++◌, [], inl, inr, List, sym, subst}
 use Rattle.std.proofs.lemmas.List.Elements.{Contains-append_left, Contains-append_cases}
 use Rattle.fb_values.specs.declared.facts.Datom.{Datom}
+use Rattle.fb_values.specs.declared.indexes.Order.TheVariants.{Eavt}
 use Rattle.fb_values.specs.Lists.{list_in}
+use Rattle.fb_values.specs.Rising.{IsRising}
 use Rattle.live_index.specs.Growth.{IsGrown}
 use Rattle.live_index.specs.Halves.{MayFollow}
 use Rattle.live_index.proofs.Growing.{both_ok, grown_held, grown_twice, single_part}
@@ -41,3 +43,6 @@ returns-clause-stands c =
     (list_in c.in_ok-filled.filled order) c.args.entry.now.datoms (list_in live order) (c.in_ok-filled.ensures order)
     (subst (λ (ds : List Datom). IsGrown order c.args.after.now (list_in c.in_ok-filled.filled order) [] ds (list_in live order))
     c.as_slice.ensures (grown order)))) c.grown.ensures c.grown.ensures
+
+pub grown-requires-clause-order : goal.grown-requires-clause-order
+grown-requires-clause-order c = subst (IsRising Eavt) (sym c.as_slice.ensures) c.requires.order

@@ -1,6 +1,6 @@
 use Rattle.std.proofs.Common.{◌∙◌, List, sym, subst}
 use Rattle.fb_values.specs.declared.facts.Datom.{Datom}
-use Rattle.live_blocks.specs.Walks.{IsFirstOf}
+use Rattle.live_runs.specs.Walks.{IsFirstOf}
 use Rattle.live_index.specs.Halves.{merged}
 use Rattle.live_index.proofs.Stepping.{step_holding, step_past}
 use Rattle.live_index.proofs.walk.Walk.next.Goals as goal

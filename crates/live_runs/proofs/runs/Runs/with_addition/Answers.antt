@@ -2,14 +2,19 @@ use Rattle.std.proofs.Common.{◌∙◌, ◌+◌, sym, ap, refl, subst}
 use Rattle.std.specs.Prelude.{Contains}
 use Rattle.fb_model.specs.Rising.{put_in_order}
 use Rattle.live_runs.specs.Members.{datom_of}
-use Rattle.live_runs.specs.Runs.{AreRuns, Layers, runs_datoms, settled_members}
+use Rattle.live_runs.specs.Runs.{AreRuns, Layers, middle_changes, runs_datoms, settled_members}
 use Rattle.live_runs.proofs.Running.{added_runs}
 use Rattle.live_runs.proofs.runs.Runs.with_addition.Goals as goal
 
 pub returns-clause-runs : goal.returns-clause-runs
 returns-clause-runs c =
     let r : Layers =
-    record { newest = c.self.inside.newest.items; settled = settled_members c.self.inside.settled; count = c.self.inside.len } in
+    record {
+      newest = c.self.inside.newest.items;
+      middle = middle_changes c.self.inside.settled;
+      settled = settled_members c.self.inside.settled;
+      count = c.self.inside.len;
+    } in
     let are : AreRuns c.args.order c.args.table.now r = subst (AreRuns c.args.order c.args.table.now) (sym c.self.view_is) c.requires.runs in
     (added_runs c.args.order c.args.table.now r c.args.change c.put.new.changes.items (c.self.inside.len + 1) are c.requires.member
     c.requires.adds
@@ -19,7 +24,12 @@ returns-clause-runs c =
 pub returns-clause-datoms : goal.returns-clause-datoms
 returns-clause-datoms c =
     let r : Layers =
-    record { newest = c.self.inside.newest.items; settled = settled_members c.self.inside.settled; count = c.self.inside.len } in
+    record {
+      newest = c.self.inside.newest.items;
+      middle = middle_changes c.self.inside.settled;
+      settled = settled_members c.self.inside.settled;
+      count = c.self.inside.len;
+    } in
     let are : AreRuns c.args.order c.args.table.now r = subst (AreRuns c.args.order c.args.table.now) (sym c.self.view_is) c.requires.runs in
     (added_runs c.args.order c.args.table.now r c.args.change c.put.new.changes.items (c.self.inside.len + 1) are c.requires.member
     c.requires.adds

@@ -2,7 +2,7 @@ use Rattle.std.proofs.Common.{◌≡◌, ◌∙◌, ◌+◌, ◌-◌, sym, ap, s
 use Rattle.std.specs.Prelude.{Contains}
 use Rattle.live_runs.specs.Changed.{without}
 use Rattle.live_runs.specs.Members.{datom_of}
-use Rattle.live_runs.specs.Runs.{AreRuns, Layers, runs_datoms, settled_members}
+use Rattle.live_runs.specs.Runs.{AreRuns, Layers, middle_changes, runs_datoms, settled_members}
 use Rattle.live_runs.proofs.Running.{removed_runs}
 use Rattle.live_runs.proofs.runs.Runs.with_removal.Goals as goal
 
@@ -13,7 +13,12 @@ overflow_sub-result c =
 pub returns-clause-runs : goal.returns-clause-runs
 returns-clause-runs c =
     let r : Layers =
-    record { newest = c.self.inside.newest.items; settled = settled_members c.self.inside.settled; count = c.self.inside.len } in
+    record {
+      newest = c.self.inside.newest.items;
+      middle = middle_changes c.self.inside.settled;
+      settled = settled_members c.self.inside.settled;
+      count = c.self.inside.len;
+    } in
     let are : AreRuns c.args.order c.args.table.now r = subst (AreRuns c.args.order c.args.table.now) (sym c.self.view_is) c.requires.runs in
     let counted : (c.self.inside.len - 1) + 1 ≡ r.count =
     omega (arith, c.requires.there.1, c.requires.runs.count_is, ap (λ (l : Layers). l.count) c.self.view_is) in
@@ -25,7 +30,12 @@ returns-clause-runs c =
 pub returns-clause-datoms : goal.returns-clause-datoms
 returns-clause-datoms c =
     let r : Layers =
-    record { newest = c.self.inside.newest.items; settled = settled_members c.self.inside.settled; count = c.self.inside.len } in
+    record {
+      newest = c.self.inside.newest.items;
+      middle = middle_changes c.self.inside.settled;
+      settled = settled_members c.self.inside.settled;
+      count = c.self.inside.len;
+    } in
     let are : AreRuns c.args.order c.args.table.now r = subst (AreRuns c.args.order c.args.table.now) (sym c.self.view_is) c.requires.runs in
     let counted : (c.self.inside.len - 1) + 1 ≡ r.count =
     omega (arith, c.requires.there.1, c.requires.runs.count_is, ap (λ (l : Layers). l.count) c.self.view_is) in

@@ -13,4 +13,4 @@ place_among-requires-clause-rising c =
     (named c.args.self.now.table.now (members_of c.args.self.now.later.now))
     (subst (IsRising c.args.self.now.order)
     (map-append (λ (m : Member). datom_of c.args.self.now.table.now m.number) c.args.self.now.chunk.now
-    (members_of c.args.self.now.later.now)) c.requires.members.rising)
+    (members_of c.args.self.now.later.now)) c.requires.left.members.rising)

@@ -1,4 +1,4 @@
-use Rattle.std.proofs.Common.{◌≡◌, refl, ap, sym, ◌∙◌, is_some, None, Some, slice_index_or, slice_set}
+use Rattle.std.proofs.Common.{refl, ap, sym, ◌∙◌, is_some, None, Some, slice_set}
 use Rattle.std.proofs.lemmas.List.{get_or_read}
 use Rattle.std.specs.Vec.{with_item}
 use Rattle.tx_resolve.proofs.Newly.{nameless_again, nameless_new}

@@ -1,5 +1,0 @@
-pub mod Heights
-pub mod Sides
-pub mod AtNode
-pub mod Woven
-pub mod Runs

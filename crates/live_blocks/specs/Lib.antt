@@ -1,6 +1,0 @@
-pub mod Trees
-pub mod Woven
-pub mod Tree
-pub mod TreeFalls
-pub mod Blocks
-pub mod Walks

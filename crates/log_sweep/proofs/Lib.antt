@@ -1,0 +1,9 @@
+pub mod Pushes
+pub mod Orders
+pub mod Sorted
+pub mod Counts
+pub mod Steps
+pub mod LawsTogether
+pub mod Wholes
+pub mod Grouped
+pub mod Joining
