@@ -8,6 +8,4 @@ mod fb_recover_tests;
 #[cfg(test)]
 mod hole_tests;
 #[cfg(test)]
-mod newest_tests;
-#[cfg(test)]
 mod seg_agree_tests;
