@@ -4,4 +4,4 @@ use Rattle.std.specs.Prelude.{ℕ, nat_lt, if◌then◌else◌}
 
 -- the rounds of looks, by how many threads can run at once
 abbrev pub rounds_on : ℕ → ℕ
-rounds_on processors = if nat_lt processors 3 then 16 else 1024
+rounds_on processors = if nat_lt processors 2 then 1 else 16

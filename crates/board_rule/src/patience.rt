@@ -3,13 +3,14 @@ ghost use Rattle.std.specs.Prelude.{◌≡◌, true, false};
 ghost use Rattle.board_rule.specs.Patience.{rounds_on};
 
 /// On fewer processors, who looks takes away what the holder of the turn is waiting for.
-const ENOUGH: usize = 3;
+const ENOUGH: usize = 2;
 
-/// So many rounds of looks outlast a turn that syncs a file. To be woken takes a good part of such a turn.
-const MANY: u32 = 1_024;
+/// So many rounds of looks outlast many turns in memory. More of them would keep a processor from the holder of the turn and from
+/// what syncs its file, wherever as many threads have work as there are processors.
+const SEVERAL: u32 = 16;
 
-/// So many outlast most turns in memory, and are short beside what another thread may take of a processor.
-const FEW: u32 = 16;
+/// A look before it sleeps.
+const ONE: u32 = 1;
 
 /// How long who waits for a turn stays awake: for so many rounds of looks, where it is next in line, or where it is second and
 /// both are to be awake. All others sleep.
@@ -25,7 +26,7 @@ impl Patience {
         ensures rounds { result.rounds ≡ rounds_on processors }
         ensures one { result.both ≡ false }
     {
-        let rounds = if processors < ENOUGH { FEW } else { MANY };
+        let rounds = if processors < ENOUGH { ONE } else { SEVERAL };
         Patience {
             rounds,
             both: false,
