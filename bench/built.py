@@ -1,4 +1,4 @@
-"""The programs that a benchmark compares: the proved one, and plain Rust's beside it."""
+"""The programs that a benchmark times: the product, the proved parts, and plain Rust's beside these."""
 import os
 import subprocess
 import sys
@@ -15,22 +15,25 @@ def newest_source():
     return newest
 
 
-def proved(crate):
-    """The built program of a crate. It is taken as the gate left it where it is newer than all sources, and else proved and built."""
-    program = os.path.join(TOP, "crates", crate, "out", crate)
-    if os.path.isfile(program) and os.path.getmtime(program) >= newest_source():
-        return program
-    # Without words a program may end with a status of its own, so what counts is that it was built.
-    subprocess.run(["rt", "run"], cwd=os.path.join(TOP, "crates", crate), stdin=subprocess.DEVNULL, stdout=subprocess.DEVNULL)
-    if not os.path.isfile(program):
-        sys.exit(f"{crate}: the program could not be built")
-    os.utime(program)
-    return program
+def product():
+    """The program that ./factbase runs, or the one that FACTBASE names."""
+    named = os.environ.get("FACTBASE")
+    if named:
+        return named
+    return subprocess.run([os.path.join(TOP, "release", "program")], check=True, stdout=subprocess.PIPE, text=True).stdout.strip()
 
 
 def bench(name):
-    """The words that start the benchmark of this name."""
-    return [proved("bench"), name]
+    """The words that start the benchmark of this name. Its program is taken as the gate left it where it is newer than all sources, and else
+    proved and built."""
+    program = os.path.join(TOP, "crates", "bench", "out", "bench")
+    if not os.path.isfile(program) or os.path.getmtime(program) < newest_source():
+        # Without words the program may end with a status of its own, so what counts is that it was built.
+        subprocess.run(["rt", "run"], cwd=os.path.join(TOP, "crates", "bench"), stdin=subprocess.DEVNULL, stdout=subprocess.DEVNULL)
+        if not os.path.isfile(program):
+            sys.exit("bench: the program could not be built")
+        os.utime(program)
+    return [program, name]
 
 
 def plain(benchmark, folder):

@@ -1,8 +1,9 @@
 //! What an entry of three datoms costs where several threads take turns, each on a core of its own, in plain Rust: the
-//! figures by which the newest datoms of the live index are kept. `rustc -O --edition 2024 turns.rs && ./turns`.
+//! figures by which the newest datoms were kept before trees, when the live index had these. README.md says more.
+//! `rustc -O --edition 2024 turns.rs && ./turns`
 //!
 //! Each turn makes the next version from the one that another thread made, and drops that one. The datoms of an entry go
-//! into EAVT and AEVT all, and two of them into AVET. The table is explained in README.md.
+//! into EAVT and AEVT all, and two of them into AVET.
 
 use std::cell::UnsafeCell;
 use std::cmp::Ordering;

@@ -1,5 +1,5 @@
-//! What one-entity entries cost in shared indexes of several shapes, in plain Rust: the figures by which the shape of
-//! the live index was chosen. `rustc -O --edition 2024 shapes.rs && ./shapes`; the table is explained in README.md.
+//! What one-entity entries cost in shared indexes of several shapes, in plain Rust: the figures by which the live index was
+//! a tree of blocks, before it became sorted numbers. `rustc -O --edition 2024 shapes.rs && ./shapes`; README.md says more.
 //!
 //! An entry has three datoms, put into EAVT and AEVT all, and two of them into AVET. The version before stays shared
 //! while the next one is made, and is dropped then. The least of 150 runs of 250 entries is printed.
