@@ -1,4 +1,4 @@
-"""By hand: kills the program while two sessions write to a directory, again and again, and looks after each kill whether the directory
+"""By hand: kills the program while four sessions write to a directory, again and again, and looks after each kill whether the directory
 holds what was answered.
 
     python3 tests/killed.py PROGRAM [KILLS]
@@ -16,7 +16,7 @@ import sys
 import tempfile
 import time
 
-SESSIONS = 2
+SESSIONS = 4
 MOST = 2000
 MERGE_AT = 100
 
