@@ -1,4 +1,4 @@
-use Rattle.std.proofs.Common.{◌++◌, ◌∷◌, [], List, take, sym, subst, arith}
+use Rattle.std.proofs.Common.{List, take, sym, subst, arith}
 use Rattle.fb_values.specs.declared.facts.Entry.{Entry}
 use Rattle.fb_view.specs.declared.growth.Recent.{Recent}
 use Rattle.fb_view.specs.SnapshotModel.{model_snapshot, Stands}
