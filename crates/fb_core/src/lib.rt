@@ -6,6 +6,7 @@ mod accepting;
 mod adopting;
 mod laws;
 mod shared;
+mod supposing;
 
 pub use accepting::Draft;
 pub use adopting::Rebased;
@@ -14,4 +15,5 @@ pub use laws::{
     adopting_changes_no_view, adopting_ends_a_merge, opening_makes_a_world,
 };
 pub use shared::{Core, CoreParts};
+pub use supposing::supposed;
 pub use tx_step::{Guard, NoGuard, TxStop};
