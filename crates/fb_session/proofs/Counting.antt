@@ -1,13 +1,14 @@
 -- How often a desk was asked, form by form.
-use Rattle.std.proofs.Common.{◌≡◌, ℕ, ◌+◌, Bool, cond, List, [], ◌∷◌, ◌++◌, Option, Some, None, refl, sym, ap, ◌∙◌, subst, inl, inr, arith}
+use Rattle.std.proofs.Common.{◌≡◌, ℕ, ◌+◌, Bool, false, ◌||◌, cond, List, [], ◌∷◌, ◌++◌, Option, Some, None, refl, sym, ap, ◌∙◌, subst, inl, inr, arith}
 use Rattle.std.proofs.Common.{option_map}
 use Rattle.std.specs.Prelude.{count_by}
+use Rattle.std.proofs.lemmas.Bool.{or_parts}
 use Rattle.std.proofs.lemmas.List.Sums.{sum_by-append}
 use Rattle.edn_model.specs.Form.{Form}
 use Rattle.talk_model.specs.Commands.{Read, Command, transact, db, sync, read, command_in}
 use Rattle.fb_desk.specs.Desks.{State, Tally, glanced, loaded}
 use Rattle.fb_session.specs.declared.session.Session.{Session}
-use Rattle.fb_session.specs.Asks.{looks, catches_up, transacts, is_db, is_sync, is_transact, Counted}
+use Rattle.fb_session.specs.Asks.{looks, catches_up, transacts, is_db, is_sync, is_transact, is_for_desk, Counted}
 use Rattle.fb_session.specs.Sessions.{KeepsCommit, LoadsOnceAtMost, Unanswered}
 
 -- ---- several forms
@@ -15,7 +16,7 @@ use Rattle.fb_session.specs.Sessions.{KeepsCommit, LoadsOnceAtMost, Unanswered}
 pub counted-none : (tally : Tally) → Counted [] 0 tally tally
 counted-none tally = record { glances = omega arith; loads = omega arith }
 
-count-append : (p : Form → Bool) (fs gs : List Form) → count_by p (fs ++ gs) ≡ count_by p fs + count_by p gs
+pub count-append : (p : Form → Bool) (fs gs : List Form) → count_by p (fs ++ gs) ≡ count_by p fs + count_by p gs
 count-append p fs gs = sum_by-append (λ (f : Form). cond (p f) 1 0) fs gs
 
 pub counted-push : (fs : List Form) (f : Form) (m n : ℕ) (start was is : Tally) → Counted fs m start was → Counted (f ∷ []) n was is
@@ -27,6 +28,16 @@ counted-push fs f m n start was is many one =
     record {
       glances = omega (arith, many.glances, one.glances, dbs);
       loads = omega (arith, many.loads, one.loads, syncs, transactions);
+    }
+
+-- the desk was asked for nothing since, and for nothing by the last of these
+pub counted-shorter : (fs gs : List Form) (m : ℕ) (start was is : Tally) → Counted (fs ++ gs) m start was
+    → ((tally : Tally) → Counted gs 0 tally tally) → Counted [] 0 was is → Counted fs m start is
+counted-shorter fs gs m start was is all quiet still =
+    let none = quiet was in
+    record {
+      glances = omega (arith, all.glances, none.glances, still.glances, count-append is_db fs gs);
+      loads = omega (arith, all.loads, none.loads, still.loads, count-append is_sync fs gs, count-append is_transact fs gs);
     }
 
 -- ---- one form
@@ -87,6 +98,23 @@ pub counted_read : (form : Form) (asked : Option Read) (tally : Tally) → comma
 counted_read form asked tally asks =
     let nothing = asks_nothing asked in
     counted-one form (option_map read asked) asks tally tally 0 (omega (arith, nothing.0)) (omega (arith, nothing.1, nothing.2))
+
+-- ---- a form for which the desk is not asked
+
+pub counted_quiet : (form : Form) → is_for_desk form ≡ false → (tally : Tally) → Counted (form ∷ []) 0 tally tally
+counted_quiet form quiet tally =
+    let command = command_in form in
+    let parts = or_parts (transacts command) (looks command || catches_up command) quiet in
+    let others = or_parts (looks command) (catches_up command) parts.1 in
+    let no_glance : one_if (looks command) ≡ 0 = ap one_if others.0 in
+    let no_sync : one_if (catches_up command) ≡ 0 = ap one_if others.1 in
+    let no_transaction : one_if (transacts command) ≡ 0 = ap one_if parts.0 in
+    counted-one form command refl tally tally 0 (omega (arith, no_glance)) (omega (arith, no_sync, no_transaction))
+
+pub counted_nothing : (form : Form) (was is : Tally) → is_for_desk form ≡ false → Counted (form ∷ []) 0 was is → Counted [] 0 was is
+counted_nothing form was is quiet one =
+    let none = counted_quiet form quiet was in
+    record { glances = omega (arith, one.glances, none.glances); loads = omega (arith, one.loads, none.loads) }
 
 -- ---- where memory was refused
 

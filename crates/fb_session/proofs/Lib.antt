@@ -1,7 +1,11 @@
 pub mod KnownBytes
+pub mod Breaking
 pub mod Results
 pub mod Counting
+pub mod Quiet
+pub mod Fronts
 pub mod Seeing
+pub mod FormsAnswered
 pub mod Deciding
 pub mod Looking
 pub mod TalkingOn

@@ -1,9 +1,11 @@
 -- The talk of a session goes on by one form, and ends.
-use Rattle.std.proofs.Common.{◌≡◌, ℕ, ◌+◌, ◌<◌, ◌≤◌, ◌⊎◌, List, [], ◌∷◌, ◌++◌, Option, Some, None, length, refl, sym, ap, ◌∙◌, subst, inl}
-use Rattle.std.proofs.Common.{inr, arith, length-append, append_assoc, append-nil}
+use Rattle.std.proofs.Common.{◌≡◌, ℕ, ◌+◌, ◌-◌, ◌<◌, ◌≤◌, ◌⊎◌, List, [], ◌∷◌, ◌++◌, Option, Some, None, length, take, refl, sym, ap, ◌∙◌, subst}
+use Rattle.std.proofs.Common.{inl, inr, arith, length-append, append_assoc, append-nil}
 use Rattle.std.specs.Prelude.{option_to_list}
 use Rattle.std.specs.List.{concat, last_or}
-use Rattle.std.proofs.lemmas.List.{length-map}
+use Rattle.std.proofs.Math.Seq.{take-append_seam}
+use Rattle.std.proofs.lemmas.List.{length-map, map-append}
+use Rattle.std.proofs.lemmas.List.Elements.{filter_map-append}
 use Rattle.std.proofs.lemmas.List.Folds.{concat-append}
 use Rattle.std.specs.Io.KnownBytes.{prepend_known, append_known}
 use Rattle.edn_model.specs.Form.{Form}
@@ -16,6 +18,7 @@ use Rattle.edn_core.specs.declared.fault.EdnFault.TheVariants as edn
 use Rattle.fb_values.specs.declared.facts.Entry.{Entry}
 use Rattle.fb_model.specs.History.{basis}
 use Rattle.fb_model.proofs.LawfulHistories.{IsLawful-length}
+use Rattle.talk_model.specs.Commands.{command_in}
 use Rattle.talk_model.specs.Script.{Ending, whole, fault, too_many, most_commands, FormsBetween, EndsAt, Begins}
 use Rattle.talk_model.proofs.OneScript.{FormsBetween-push}
 use Rattle.talk_model.specs.Session.{Setting, Standing, setting, opened_at}
@@ -28,16 +31,20 @@ use Rattle.fb_desk.specs.Desks.{State, WentOn, GoesOn}
 use Rattle.fb_session.specs.declared.outcome.SessionEnd.{SessionEnd}
 use Rattle.fb_session.specs.declared.outcome.SessionEnd.TheVariants as ended
 use Rattle.fb_session.specs.declared.session.Session.{Session}
-use Rattle.fb_session.specs.declared.serve.AnswerError.{AnswerError}
-use Rattle.fb_session.specs.declared.serve.AnswerError.TheVariants.{WriteFault, Memory}
+use Rattle.fb_session.specs.declared.answering.AnswerError.{AnswerError}
+use Rattle.fb_session.specs.declared.answering.AnswerError.TheVariants.{WriteFault, Memory}
 use Rattle.fb_session.specs.Replies.{trace_of, AnswersAll, AnswersSome, AnswersUpTo, Answers, SinkCount}
 use Rattle.fb_session.specs.Asks.{Counted, Asks}
+use Rattle.fb_session.specs.WaitingLines.{Waits, BreaksAt, CutsOff}
 use Rattle.fb_session.specs.Sessions.{over, IsOpened, KeepsCommit, Answered, Replied, RepliedPart, RepliedNothing, StopsAt, end_of}
+use Rattle.fb_session.specs.Sessions.{Finishes, FinishCount, AreQuiet}
 use Rattle.fb_session.specs.Terms.{Terms}
 use Rattle.fb_session.specs.Sessions.{TalkSoFar, NoCommand, IsPastReading, served_by, Talks}
 use Rattle.fb_session.proofs.KnownBytes.{append_known-none, append_known-append}
-use Rattle.fb_session.proofs.Seeing.{went_on-nothing}
-use Rattle.fb_session.proofs.Counting.{counted-none, counted-push}
+use Rattle.fb_session.proofs.Seeing.{went_on-nothing, goes_on-nowhere, keeps_nothing}
+use Rattle.fb_session.proofs.Counting.{counted-none, counted-push, counted-shorter}
+use Rattle.fb_session.proofs.Quiet.{commits_nothing, quiet-none, quiet-push, quiet-rest, Split, split_at}
+use Rattle.fb_session.proofs.Fronts.{Talk-front, FormsBetween-front}
 
 -- one line more is written behind the others
 lines-written : (talk : List Exchange) (x : Exchange) → concat (lines_of (talk ++ x ∷ [])) ≡ concat (lines_of talk) ++ x.line
@@ -99,6 +106,11 @@ talk-opened f names bytes session start had opened =
       talk = refl;
       places = opened.places;
       kept = opened.commits;
+      sent = [];
+      held = [];
+      parts = refl;
+      quiet = quiet-none;
+      waits = opened.waits;
       written = sym (append_known-none had);
       stands = opened.stands;
       went_on = went_on-nothing start;
@@ -120,6 +132,23 @@ module _ {S : Type 0} (f : Terms) (names : S → List (List ℕ)) (bytes : List 
   one_more : (x : Exchange) → length old.places.items < most_commands → length (forms_of (so_far.exchanges ++ x ∷ [])) ≤ most_commands
   one_more x room =
       omega (arith, ap length (forms-push so_far.exchanges x), length-append (forms_of so_far.exchanges) (x.form ∷ []), count-forms, room)
+
+  -- ---- the lines that wait
+
+  lines-parts : concat (lines_of so_far.exchanges) ≡ concat (lines_of so_far.sent) ++ concat (lines_of so_far.held)
+  lines-parts =
+      ap (λ xs. concat (lines_of xs)) so_far.parts
+      ∙ ap concat (map-append (λ (x : Exchange). x.line) so_far.sent so_far.held)
+      ∙ concat-append (lines_of so_far.sent) (lines_of so_far.held)
+
+  -- where they have gone out, all lines are written
+  all-out : (has : Option (List ℕ)) → has ≡ append_known mid (concat (lines_of so_far.held))
+      → has ≡ append_known had (concat (lines_of so_far.exchanges))
+  all-out has out =
+      out
+      ∙ ap (λ o. append_known o (concat (lines_of so_far.held))) so_far.written
+      ∙ append_known-append had (concat (lines_of so_far.sent)) (concat (lines_of so_far.held))
+      ∙ ap (append_known had) (sym lines-parts)
 
   -- ---- the end
 
@@ -167,14 +196,14 @@ module _ {S : Type 0} (f : Terms) (names : S → List (List ℕ)) (bytes : List 
       }
 
   -- the session ends so, of which its answers say this
-  talk-ended : (how : SessionEnd) → IsPastReading how
+  talk-ended : (has : Option (List ℕ)) → has ≡ append_known mid (concat (lines_of so_far.held)) → (how : SessionEnd) → IsPastReading how
       → Answers (over f was) (basis start.entries) bytes
       (record { written = concat (lines_of so_far.exchanges); places = old.places.items; commits = old.commits.items }) how
-      → Talks f bytes start was had mid (served_by old how)
-  talk-ended how past answers =
+      → Talks f bytes start was had has (served_by old how)
+  talk-ended has out how past answers =
       record {
         written = concat (lines_of so_far.exchanges);
-        gained = so_far.written;
+        gained = all-out has out;
         answers = answers;
         prefixes = sees-all;
         commits_are = so_far.commits;
@@ -206,17 +235,19 @@ module _ {S : Type 0} (f : Terms) (names : S → List (List ℕ)) (bytes : List 
         leaves = leaves-so_far;
       }
 
-  -- no command follows
-  pub talk-no_command : (how : SessionEnd) → NoCommand bytes at (length old.places.items) how
-      → Talks f bytes start was had mid (served_by old how)
-  talk-no_command ended.Done none = talk-ended ended.Done tt (talk-ends whole none)
-  talk-no_command (ended.Script why) none = talk-ended (ended.Script why) tt (fault-answers why none.0 none.1)
-  talk-no_command ended.TooLong none = absurd none
-  talk-no_command ended.TooMany none =
-      talk-ended ended.TooMany tt (talk-ends too_many (omega (arith, count-forms, none.0, so_far.few_forms), none.1, none.2, none.3))
-  talk-no_command ended.ReadFault none = absurd none
-  talk-no_command ended.WriteFault none = absurd none
-  talk-no_command ended.Memory none = talk-ended ended.Memory tt memory-answers
+  -- no command follows, and the lines that waited have gone out
+  module _ (has : Option (List ℕ)) (out : has ≡ append_known mid (concat (lines_of so_far.held))) where
+    talk-no_command : (how : SessionEnd) → NoCommand bytes at (length old.places.items) how
+        → Talks f bytes start was had has (served_by old how)
+    talk-no_command ended.Done none = talk-ended has out ended.Done tt (talk-ends whole none)
+    talk-no_command (ended.Script why) none = talk-ended has out (ended.Script why) tt (fault-answers why none.0 none.1)
+    talk-no_command ended.TooLong none = absurd none
+    talk-no_command ended.TooMany none =
+        talk-ended has out ended.TooMany tt
+        (talk-ends too_many (omega (arith, count-forms, none.0, so_far.few_forms), none.1, none.2, none.3))
+    talk-no_command ended.ReadFault none = absurd none
+    talk-no_command ended.WriteFault none = absurd none
+    talk-no_command ended.Memory none = talk-ended has out ended.Memory tt memory-answers
 
   -- ---- the desk goes on, and one form more is answered
 
@@ -247,6 +278,152 @@ module _ {S : Type 0} (f : Terms) (names : S → List (List ℕ)) (bytes : List 
         subst P (sym goes.entries)
         (Talk-longer (over f was) goes.more is.stop is.teller counted grows goes.stop
         (opened_at (basis start.entries)) so_far.standing so_far.exchanges so_far.from so_far.talk)
+
+    -- ---- the sink failed in the lines that waited
+
+    module _ (has : Option (List ℕ)) (keeps : KeepsCommit old new was is None) (still : Counted [] 0 was.tally is.tally)
+        (cut : CutsOff (lines_of so_far.held) old.places.items new.places.items mid has) where
+      abbrev breaks : BreaksAt (lines_of so_far.held) cut.left mid has
+      breaks = cut.breaks
+
+      abbrev split : Split so_far.held breaks.out breaks.broken breaks.behind
+      split = split_at so_far.held breaks.out breaks.broken breaks.behind breaks.parts
+
+      -- the exchanges whose lines went out whole, and the one behind them
+      abbrev front : List Exchange
+      front = so_far.sent ++ split.front
+
+      abbrev up_to : List Exchange
+      up_to = front ++ split.last ∷ []
+
+      at_last : so_far.exchanges ≡ front ++ split.last ∷ split.rest
+      at_last =
+          so_far.parts
+          ∙ ap (λ xs. so_far.sent ++ xs) split.parts
+          ∙ sym (append_assoc so_far.sent split.front (split.last ∷ split.rest))
+
+      behind_last : so_far.exchanges ≡ up_to ++ split.rest
+      behind_last = at_last ∙ sym (append_assoc front (split.last ∷ []) split.rest)
+
+      quiet : AreQuiet split.rest
+      quiet =
+          let held : so_far.held ≡ (split.front ++ split.last ∷ []) ++ split.rest =
+          split.parts ∙ sym (append_assoc split.front (split.last ∷ []) split.rest) in
+          quiet-rest (split.front ++ split.last ∷ []) split.rest (subst AreQuiet held so_far.quiet)
+
+      talk-up_to : (after : Standing) × Talk (over f is) (opened_at (basis start.entries)) up_to after
+      talk-up_to =
+          let Tells : List Exchange → Type 0 = λ xs. Talk (over f is) (opened_at (basis start.entries)) xs so_far.standing in
+          Talk-front (over f is) (opened_at (basis start.entries)) so_far.standing up_to split.rest (subst Tells behind_last talk-now)
+
+      forms-parts : forms_of so_far.exchanges ≡ forms_of up_to ++ forms_of split.rest
+      forms-parts = ap forms_of behind_last ∙ map-append (λ (x : Exchange). x.form) up_to split.rest
+
+      begins-up_to : Begins bytes (forms_of up_to)
+      begins-up_to =
+          let Reads : List Form → Type 0 = λ fs. FormsBetween bytes 0 fs at in
+          let read = FormsBetween-front bytes 0 (forms_of up_to) (forms_of split.rest) at (subst Reads forms-parts so_far.read) in
+          record {
+            end = read.0;
+            forms = read.1;
+            few =
+                omega (arith, ap length forms-parts, length-append (forms_of up_to) (forms_of split.rest), so_far.few_forms);
+          }
+
+      commits-still : new.commits.items ≡ old.commits.items
+      commits-still = keeps.commits ∙ append-nil old.commits.items
+
+      commits-up_to : new.commits.items ≡ commits_of up_to
+      commits-up_to =
+          commits-still
+          ∙ so_far.kept
+          ∙ ap commits_of behind_last
+          ∙ filter_map-append (λ (x : Exchange). x.commit) up_to split.rest
+          ∙ ap (λ commits. commits_of up_to ++ commits) quiet.commits
+          ∙ append-nil (commits_of up_to)
+
+      places-front : new.places.items ≡ places_of front
+      places-front =
+          let all : old.places.items ≡ places_of front ++ split.last.place ∷ places_of split.rest =
+          so_far.places ∙ ap places_of at_last ∙ map-append (λ (x : Exchange). x.place) front (split.last ∷ split.rest) in
+          let lost : cut.left ≡ length split.rest + 1 =
+          breaks.count
+          ∙ ap (λ n. n + 1) (ap length (sym split.others) ∙ length-map split.rest (λ (x : Exchange). x.line)) in
+          let left : length old.places.items - cut.left ≡ length (places_of front) =
+          omega (
+            arith,
+            ap length all,
+            lost,
+            length-append (places_of front) (split.last.place ∷ places_of split.rest),
+            length-map split.rest (λ (x : Exchange). x.place),
+          ) in
+          cut.keeps
+          ∙ ap (λ n. take n old.places.items) left
+          ∙ ap (take (length (places_of front))) all
+          ∙ take-append_seam (places_of front) (split.last.place ∷ places_of split.rest)
+
+      lines-front : concat (lines_of front) ≡ concat (lines_of so_far.sent) ++ concat breaks.out
+      lines-front =
+          ap concat (map-append (λ (x : Exchange). x.line) so_far.sent split.front)
+          ∙ concat-append (lines_of so_far.sent) (lines_of split.front)
+          ∙ ap (λ lines. concat (lines_of so_far.sent) ++ concat lines) split.lines
+
+      gained-front : has ≡ append_known had (concat (lines_of front) ++ breaks.taken.out)
+      gained-front =
+          let out = breaks.taken.out in
+          breaks.taken.taken
+          ∙ ap (λ o. append_known (append_known o (concat breaks.out)) out) so_far.written
+          ∙ ap (λ o. append_known o out) (append_known-append had (concat (lines_of so_far.sent)) (concat breaks.out))
+          ∙ ap (λ lines. append_known (append_known had lines) out) (sym lines-front)
+          ∙ append_known-append had (concat (lines_of front)) out
+
+      talk-cut_off : Talks f bytes start is had has (served_by new ended.WriteFault)
+      talk-cut_off =
+          let count : length (forms_of up_to) ≡ length (places_of front) + 1 =
+          length-map up_to (λ (x : Exchange). x.form)
+          ∙ length-append front (split.last ∷ [])
+          ∙ ap (λ n. n + 1) (sym (length-map front (λ (x : Exchange). x.place))) in
+          record {
+            written = concat (lines_of front) ++ breaks.taken.out;
+            gained = gained-front;
+            answers = record {
+              exchanges = front;
+              last = split.last;
+              after = talk-up_to.0;
+              read = begins-up_to;
+              talk = talk-up_to.1;
+              out = breaks.taken.out;
+              missing = breaks.taken.kept;
+              parts = split.line ∙ breaks.taken.parts;
+              short = breaks.taken.short;
+              written = refl;
+              places = places-front;
+              commits = commits-up_to;
+            };
+            prefixes =
+                let Sees : List ℕ → List ℕ → Type 0 = SeesAll (basis is.entries) (basis start.entries) in
+                let SeesAt : List ℕ → Type 0 = λ places. Sees places new.commits.items in
+                subst SeesAt (sym places-front)
+                (subst (Sees (places_of front)) (sym commits-up_to)
+                (SeesAll-unfinished (over f is) (opened_at (basis start.entries)) talk-up_to.0 front split.last from-now talk-up_to.1));
+            commits_are = commits_on start was is old new None so_far.commits keeps;
+            went_on = went_on-more start was is so_far.went_on goes;
+            asks = λ held left taken. record {
+              script = bytes;
+              taken = taken;
+              forms = forms_of up_to;
+              read = begins-up_to;
+              enough = (omega (arith, count, ap length places-front), omega (arith, count, ap length places-front));
+              counted =
+                  let Counts : List Form → Type 0 = λ fs. Counted fs (length old.commits.items) start.tally was.tally in
+                  let Accepts : List ℕ → Type 0 = λ commits. Counted (forms_of up_to) (length commits) start.tally is.tally in
+                  subst Accepts (sym commits-still)
+                  (counted-shorter (forms_of up_to) (forms_of split.rest) (length old.commits.items) start.tally was.tally is.tally
+                  (subst Counts forms-parts so_far.counted) quiet.asks still);
+            };
+            seen = λ wrong. absurd (cc);
+            past_reading = tt;
+          }
 
     module _ (form : Form) (line : List ℕ) (answered : Answered f form old new names was is so_far.standing line) where
       abbrev last : Exchange
@@ -295,9 +472,11 @@ module _ {S : Type 0} (f : Terms) (names : S → List (List ℕ)) (bytes : List 
           ap length (forms-push so_far.exchanges x) ∙ length-append (forms_of so_far.exchanges) (x.form ∷ []) in
           (omega (arith, forms, count-forms, ap length places), omega (arith, forms, count-forms, ap length places))
 
-      -- one more form was answered
-      pub talk-replied : Replied f form old new names was is so_far.standing mid has → TalkSoFar f bytes next new names start is had has
-      talk-replied r =
+      -- one more form was answered, and of the lines so far these wait
+      talk-on : (r : Replied f form old new names was is so_far.standing (lines_of so_far.held) mid has) → let x = last form r.line r.answered in
+          (sent held : List Exchange) → so_far.exchanges ++ x ∷ [] ≡ sent ++ held → AreQuiet held → Waits new.waiting (lines_of held)
+          → has ≡ append_known had (concat (lines_of sent)) → TalkSoFar f bytes next new names start is had has
+      talk-on r sent held parts quiet waits written =
           let x = last form r.line r.answered in
           record {
             exchanges = so_far.exchanges ++ x ∷ [];
@@ -307,11 +486,12 @@ module _ {S : Type 0} (f : Terms) (names : S → List (List ℕ)) (bytes : List 
             talk = talk-one_more form r.line r.answered;
             places = r.places ∙ ap (λ ps. ps ++ x.place ∷ []) so_far.places ∙ sym (places-push so_far.exchanges x);
             kept = commits-one_more form r.line r.answered;
-            written =
-                r.written
-                ∙ ap (λ o. append_known o r.line) so_far.written
-                ∙ append_known-append had (concat (lines_of so_far.exchanges)) r.line
-                ∙ ap (append_known had) (sym (lines-written so_far.exchanges x));
+            sent = sent;
+            held = held;
+            parts = parts;
+            quiet = quiet;
+            waits = waits;
+            written = written;
             stands = r.answered.stands;
             went_on = went_on-more start was is so_far.went_on goes;
             from = from-now;
@@ -320,19 +500,39 @@ module _ {S : Type 0} (f : Terms) (names : S → List (List ℕ)) (bytes : List 
             within = within;
           }
 
+      -- its line waits, or is out behind those that waited
+      pub talk-replied : Replied f form old new names was is so_far.standing (lines_of so_far.held) mid has → TalkSoFar f bytes next new names start is had has
+      talk-replied r =
+          let x = last form r.line r.answered in
+          let none = commits_nothing (over f is) so_far.standing r.answered.after r.line r.answered.commit (command_in form) in
+          let IsWaiting : List (List ℕ) → Type 0 = Waits new.waiting in
+          elim r.written [
+            | inl later ↦ talk-on r so_far.sent (so_far.held ++ x ∷ [])
+                (ap (λ xs. xs ++ x ∷ []) so_far.parts ∙ append_assoc so_far.sent so_far.held (x ∷ []))
+                (quiet-push so_far.held x so_far.quiet later.0 (none later.0 r.answered.answered))
+                (subst IsWaiting (sym (lines-push so_far.held x)) later.1.waits)
+                (later.1.still ∙ so_far.written)
+            | inr out ↦ talk-on r (so_far.exchanges ++ x ∷ []) [] (sym (append-nil (so_far.exchanges ++ x ∷ []))) quiet-none out.none
+                (out.written
+                ∙ ap (λ o. append_known o r.line) (all-out (append_known mid (concat (lines_of so_far.held))) refl)
+                ∙ append_known-append had (concat (lines_of so_far.exchanges)) r.line
+                ∙ ap (append_known had) (sym (lines-written so_far.exchanges x)))
+          ]
+
       -- the sink failed in the middle of the line of the form behind
-      talk-breaks_off : RepliedPart f form old new names was is so_far.standing mid has
+      talk-breaks_off : RepliedPart f form old new names was is so_far.standing (lines_of so_far.held) mid has
           → Talks f bytes start is had has (served_by new ended.WriteFault)
       talk-breaks_off r =
           let x = last form r.line r.answered in
           let begins : Begins bytes (forms_of (so_far.exchanges ++ x ∷ [])) =
           record { end = next; forms = forms-one_more x refl; few = one_more x room } in
-          let out = r.written.out in
+          let part = r.written in
+          let out = part.out in
           record {
             written = concat (lines_of so_far.exchanges) ++ out;
             gained =
-                r.written.taken
-                ∙ ap (λ o. append_known o out) so_far.written
+                part.taken
+                ∙ ap (λ o. append_known o out) (all-out (append_known mid (concat (lines_of so_far.held))) refl)
                 ∙ append_known-append had (concat (lines_of so_far.exchanges)) out;
             answers = record {
               exchanges = so_far.exchanges;
@@ -341,9 +541,9 @@ module _ {S : Type 0} (f : Terms) (names : S → List (List ℕ)) (bytes : List 
               read = begins;
               talk = talk-one_more form r.line r.answered;
               out = out;
-              missing = r.written.kept;
-              parts = r.written.parts;
-              short = r.written.short;
+              missing = part.kept;
+              parts = part.parts;
+              short = part.short;
               written = refl;
               places = r.places ∙ so_far.places;
               commits = commits-one_more form r.line r.answered;
@@ -364,12 +564,12 @@ module _ {S : Type 0} (f : Terms) (names : S → List (List ℕ)) (bytes : List 
           }
 
       -- memory was refused, and nothing was committed for the form behind
-      talk-refused : RepliedNothing form old new was is mid has → Talks f bytes start is had has (served_by new ended.Memory)
+      talk-refused : RepliedNothing form old new was is (lines_of so_far.held) mid has → Talks f bytes start is had has (served_by new ended.Memory)
       talk-refused r =
           let same : new.commits.items ≡ old.commits.items = r.unanswered.keeps.commits ∙ append-nil old.commits.items in
           record {
             written = concat (lines_of so_far.exchanges);
-            gained = r.written ∙ so_far.written;
+            gained = all-out has r.written;
             answers = record {
               exchanges = so_far.exchanges;
               after = so_far.standing;
@@ -413,13 +613,27 @@ module _ {S : Type 0} (f : Terms) (names : S → List (List ℕ)) (bytes : List 
           }
 
       -- the form behind was not answered
-      pub talk-stops : (stop : AnswerError) → StopsAt f form old new names was is so_far.standing mid has stop
+      pub talk-stops : (stop : AnswerError) → StopsAt f form old new names was is so_far.standing (lines_of so_far.held) mid has stop
           → Talks f bytes start is had has (served_by new (end_of stop))
-      talk-stops WriteFault stopped = talk-breaks_off stopped
+      talk-stops WriteFault (inl before) =
+          talk-cut_off has before.keeps before.counted before.cut
+      talk-stops WriteFault (inr part) = talk-breaks_off part
       talk-stops Memory stopped = talk-refused stopped
 
+  -- ---- no command follows
+
+  pub talk-finished : (asked how : SessionEnd) (new : Session S) (has : Option (List ℕ))
+      → NoCommand bytes at (length old.places.items) asked → new.commits.items ≡ old.commits.items
+      → Finishes (lines_of so_far.held) old.places.items new.places.items mid has asked how
+      → Talks f bytes start was had has (served_by new how)
+  talk-finished asked how new has none commits (inl done) =
+      rw (done.ends, done.keeps, commits) (talk-no_command has done.written asked none)
+  talk-finished asked how new has none commits (inr cut) =
+      rw cut.0
+      (talk-cut_off was new (goes_on-nowhere was) has (keeps_nothing old new was was commits refl) (counted-none was.tally) cut.1)
+
 -- nor did the sink fail
-pub no_command-count : (bytes : List ℕ) (at count : ℕ) (how : SessionEnd) (old new : ℕ) → NoCommand bytes at count how → new ≡ old
+no_command-count : (bytes : List ℕ) (at count : ℕ) (how : SessionEnd) (old new : ℕ) → NoCommand bytes at count how → new ≡ old
     → SinkCount how old new
 no_command-count bytes at count ended.Done old new none same = same
 no_command-count bytes at count (ended.Script why) old new none same = same
@@ -428,3 +642,8 @@ no_command-count bytes at count ended.TooMany old new none same = same
 no_command-count bytes at count ended.ReadFault old new none same = absurd none
 no_command-count bytes at count ended.WriteFault old new none same = absurd none
 no_command-count bytes at count ended.Memory old new none same = same
+
+pub finish-count : (bytes : List ℕ) (at count : ℕ) (asked how : SessionEnd) (old new : ℕ) → NoCommand bytes at count asked
+    → FinishCount asked how old new → SinkCount how old new
+finish-count bytes at count asked how old new none (inl same) = rw same.0 (no_command-count bytes at count asked old new none same.1)
+finish-count bytes at count asked how old new none (inr failed) = rw failed.0 failed.1

@@ -1,6 +1,6 @@
 -- How often a session asks its desk for the forms of its script.
 -- This project's own choice.
-use Rattle.std.specs.Prelude.{◌≡◌, ℕ, ◌+◌, ◌≤◌, Bool, true, false, List, Option, Some, length}
+use Rattle.std.specs.Prelude.{◌≡◌, ℕ, ◌+◌, ◌≤◌, Bool, true, false, ◌||◌, List, Option, Some, length}
 use Rattle.std.specs.Prelude.{count_by}
 use Rattle.std.specs.Io.KnownBytes.{prepend_known}
 use Rattle.edn_model.specs.Form.{Form}
@@ -23,6 +23,9 @@ abbrev pub transacts : Option Command → Bool
 transacts (Some (transact asked)) = true
 transacts command = false
 
+abbrev pub is_asked : Option Command → Bool
+is_asked command = transacts command || (looks command || catches_up command)
+
 -- ---- and which forms
 
 abbrev pub is_db : Form → Bool
@@ -33,6 +36,9 @@ is_sync f = catches_up (command_in f)
 
 abbrev pub is_transact : Form → Bool
 is_transact f = transacts (command_in f)
+
+abbrev pub is_for_desk : Form → Bool
+is_for_desk f = is_asked (command_in f)
 
 -- The desk was asked for these forms, and accepted so many:
 -- each `:db` looked once at what was mailed,

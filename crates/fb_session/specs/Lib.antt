@@ -1,5 +1,6 @@
 pub mod Taken
 pub mod Written
+pub mod WaitingLines
 pub mod Replies
 pub mod Asks
 pub mod Terms

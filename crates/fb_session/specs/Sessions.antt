@@ -1,7 +1,8 @@
 -- What a session keeps while it answers forms: what its reads see, and what it answered so far.
 -- This project's own choice.
-use Rattle.std.specs.Prelude.{◌≡◌, ◌≢◌, ℕ, ℤ, ◌<◌, ◌≤◌, ◌⊎◌, Bool, true, List, [], ◌∷◌, ◌++◌}
-use Rattle.std.specs.Prelude.{Option, Some, None, option_to_list, length, codes}
+use Rattle.std.specs.Prelude.{◌≡◌, ◌≢◌, ℕ, ℤ, ◌<◌, ◌≤◌, ◌⊎◌, Bool, true, false, List, [], ◌∷◌}
+use Rattle.std.specs.Prelude.{◌++◌, Option, Some, None, option_to_list, length, codes, Result}
+use Rattle.std.specs.Prelude.{MatchResult}
 use Rattle.std.specs.List.{concat, last_or}
 use Rattle.std.specs.Io.KnownBytes.{prepend_known, append_known}
 use Rattle.edn_model.specs.Form.{Form}
@@ -27,7 +28,7 @@ use Rattle.fb_ports.specs.Faults.{Rose}
 use Rattle.fb_db.specs.Seen.{window_of}
 use Rattle.fb_db.specs.declared.db.Db.{Db}
 use Rattle.fb_reads.specs.Answers.{IsLineFor, standing_at}
-use Rattle.fb_desk.specs.Desks.{State, WentOn, IsReceipt, IsFault, loaded}
+use Rattle.fb_desk.specs.Desks.{Tally, State, WentOn, IsReceipt, IsFault, loaded}
 use Rattle.fb_desk.specs.declared.answers.Receipt.{Receipt}
 use Rattle.fb_desk.specs.declared.answers.TxFault.{TxFault}
 use Rattle.fb_desk.specs.declared.answers.TxFault.TheVariants as fault
@@ -36,11 +37,13 @@ use Rattle.fb_session.specs.declared.outcome.Served.{Served}
 use Rattle.fb_session.specs.declared.outcome.SessionEnd.{SessionEnd}
 use Rattle.fb_session.specs.declared.outcome.SessionEnd.TheVariants as ended
 use Rattle.fb_session.specs.declared.session.Session.{Session}
-use Rattle.fb_session.specs.declared.serve.AnswerError.{AnswerError}
-use Rattle.fb_session.specs.declared.serve.AnswerError.TheVariants.{WriteFault, Memory}
+use Rattle.fb_session.specs.declared.answering.AnswerError.{AnswerError}
+use Rattle.fb_session.specs.declared.answering.AnswerError.TheVariants.{WriteFault, Memory}
 use Rattle.fb_session.specs.Written.{TakesPart}
 use Rattle.fb_session.specs.Replies.{Answers}
-use Rattle.fb_session.specs.Asks.{Counted, Asks}
+use Rattle.fb_session.specs.Asks.{is_for_desk, Counted, Asks}
+use Rattle.fb_session.specs.declared.waiting.Waiting.{Waiting}
+use Rattle.fb_session.specs.WaitingLines.{Waits, CutsOff, LineWaits, LineIsOut}
 
 -- ---- what it is answered by
 
@@ -67,6 +70,7 @@ pub record IsOpened {S : Type 0} (session : Session S) (names : S → List (List
   pub stands : HasStanding session.view names desk (opened_at (basis desk.entries))
   pub places : session.places.items ≡ []
   pub commits : session.commits.items ≡ []
+  pub waits : Waits session.waiting []
 
 -- this was committed through the desk, and the session keeps it
 pub record KeepsCommit {S : Type 0} (old new : Session S) (was is : State) (commit : Option ℕ)
@@ -167,37 +171,64 @@ pub record Unanswered {S : Type 0} (form : Form) (old new : Session S)
   pub keeps : KeepsCommit old new was is None
   pub counted : (is.tally ≡ was.tally) ⊎ Counted (form ∷ []) 0 was.tally is.tally
 
--- the form was answered, and its line was written whole
+-- the line of a form for which the desk is not asked may wait
+abbrev pub GoesOut : Form → List (List ℕ) → List ℕ → Waiting → Option (List ℕ) → Option (List ℕ)
+    → Type 0
+GoesOut form lines line waiting had has =
+    ((is_for_desk form ≡ false) × LineWaits lines line waiting had has)
+    ⊎ LineIsOut lines line waiting had has
+
+-- the form was answered, and its line waits, or was written whole
 pub record Replied {S : Type 0} (f : Terms) (form : Form) (old new : Session S)
-    (names : S → List (List ℕ)) (was is : State) (before : Standing) (had has : Option (List ℕ))
-    : Type 0 where
+    (names : S → List (List ℕ)) (was is : State) (before : Standing) (lines : List (List ℕ))
+    (had has : Option (List ℕ)) : Type 0 where
   pub line : List ℕ
   pub answered : Answered f form old new names was is before line
   pub places : new.places.items ≡ old.places.items ++ answered.after.place ∷ []
-  pub written : has ≡ append_known had line
+  pub written : GoesOut form lines line new.waiting had has
 
 -- the form was answered, and the sink failed before it had taken the whole line
 pub record RepliedPart {S : Type 0} (f : Terms) (form : Form) (old new : Session S)
-    (names : S → List (List ℕ)) (was is : State) (before : Standing) (had has : Option (List ℕ))
-    : Type 0 where
+    (names : S → List (List ℕ)) (was is : State) (before : Standing) (lines : List (List ℕ))
+    (had has : Option (List ℕ)) : Type 0 where
   pub line : List ℕ
   pub answered : Answered f form old new names was is before line
   pub places : new.places.items ≡ old.places.items
-  pub written : TakesPart line had has
+  pub written : TakesPart line (append_known had (concat lines)) has
 
--- memory was refused, and nothing was written
+-- the sink failed in the lines that waited: the desk was not asked for what is behind them
+pub record RepliedBefore {S : Type 0} (old new : Session S) (was is : State)
+    (lines : List (List ℕ)) (had has : Option (List ℕ)) : Type 0 where
+  pub keeps : KeepsCommit old new was is None
+  pub counted : Counted [] 0 was.tally is.tally
+  pub cut : CutsOff lines old.places.items new.places.items had has
+
+-- memory was refused, and no line was written but those that waited
 pub record RepliedNothing {S : Type 0} (form : Form) (old new : Session S) (was is : State)
-    (had has : Option (List ℕ)) : Type 0 where
+    (lines : List (List ℕ)) (had has : Option (List ℕ)) : Type 0 where
   pub unanswered : Unanswered form old new was is
   pub places : new.places.items ≡ old.places.items
-  pub written : has ≡ had
+  pub written : has ≡ append_known had (concat lines)
 
 abbrev pub StopsAt : {S : Type 0} → Terms → Form → Session S → Session S → (S → List (List ℕ))
-    → State → State → Standing → Option (List ℕ) → Option (List ℕ) → AnswerError → Type 0
-StopsAt f form old new names was is before had has WriteFault =
-    RepliedPart f form old new names was is before had has
-StopsAt f form old new names was is before had has Memory =
-    RepliedNothing form old new was is had has
+    → State → State → Standing → List (List ℕ) → Option (List ℕ) → Option (List ℕ) → AnswerError
+    → Type 0
+StopsAt f form old new names was is before lines had has WriteFault =
+    RepliedBefore old new was is lines had has
+    ⊎ RepliedPart f form old new names was is before lines had has
+StopsAt f form old new names was is before lines had has Memory =
+    RepliedNothing form old new was is lines had has
+
+-- what became of the form behind the lines that waited, at the terms of the session's filter
+abbrev pub Became : {S : Type 0} → (S → Terms) → Form → Session S → Session S
+    → (S → List (List ℕ)) → State → State → Option (List ℕ) → Option (List ℕ)
+    → Result (Unit {0}) AnswerError → Type 0
+Became terms form old new names was is had has result =
+    (before : Standing) → HasStanding old.view names was before
+    → (lines : List (List ℕ)) → Waits old.waiting lines
+    → MatchResult result
+    (λ _. Replied (terms old.view.filter) form old new names was is before lines had has)
+    (λ stop. StopsAt (terms old.view.filter) form old new names was is before lines had has stop)
 
 abbrev pub StopCount : AnswerError → ℕ → ℕ → Type 0
 StopCount WriteFault old new = Rose old new
@@ -208,10 +239,35 @@ abbrev pub end_of : AnswerError → SessionEnd
 end_of WriteFault = ended.WriteFault
 end_of Memory = ended.Memory
 
+-- ---- an end
+
+-- the lines that waited went out, and the session ends as it was to
+pub record Finished (lines : List (List ℕ)) (places kept : List ℕ) (had has : Option (List ℕ))
+    (asked how : SessionEnd) : Type 0 where
+  pub ends : how ≡ asked
+  pub keeps : kept ≡ places
+  pub written : has ≡ append_known had (concat lines)
+
+-- or the sink failed in them
+abbrev pub Finishes : List (List ℕ) → List ℕ → List ℕ → Option (List ℕ) → Option (List ℕ)
+    → SessionEnd → SessionEnd → Type 0
+Finishes lines places kept had has asked how =
+    Finished lines places kept had has asked how
+    ⊎ ((how ≡ ended.WriteFault) × CutsOff lines places kept had has)
+
+abbrev pub FinishCount : SessionEnd → SessionEnd → ℕ → ℕ → Type 0
+FinishCount asked how old new =
+    ((how ≡ asked) × (new ≡ old)) ⊎ ((how ≡ ended.WriteFault) × Rose old new)
+
 -- ---- a script
 
+-- these asked the desk for nothing, and committed nothing
+pub record AreQuiet (exchanges : List Exchange) : Type 0 where
+  pub asks : (tally : Tally) → Counted (forms_of exchanges) 0 tally tally
+  pub commits : commits_of exchanges ≡ []
+
 -- The bytes up to this place are forms, and this is the session's talk over them so far:
--- its lines are what the sink gained.
+-- the lines of its first part are what the sink gained, and those of the quiet rest wait.
 pub record TalkSoFar {S : Type 0} (f : Terms) (bytes : List ℕ) (at : ℕ) (session : Session S)
     (names : S → List (List ℕ)) (start now : State) (had has : Option (List ℕ)) : Type 0 where
   pub exchanges : List Exchange
@@ -221,7 +277,12 @@ pub record TalkSoFar {S : Type 0} (f : Terms) (bytes : List ℕ) (at : ℕ) (ses
   pub talk : Talk (over f now) (opened_at (basis start.entries)) exchanges standing
   pub places : session.places.items ≡ places_of exchanges
   pub kept : session.commits.items ≡ commits_of exchanges
-  pub written : has ≡ append_known had (concat (lines_of exchanges))
+  pub sent : List Exchange
+  pub held : List Exchange
+  pub parts : exchanges ≡ sent ++ held
+  pub quiet : AreQuiet held
+  pub waits : Waits session.waiting (lines_of held)
+  pub written : has ≡ append_known had (concat (lines_of sent))
   pub stands : HasStanding session.view names now standing
   pub went_on : WentOn start now
   pub from : basis start.entries ≤ basis now.entries

@@ -69,6 +69,7 @@ impl<P: FilterTable> Session<Picks<'_, P>> {
             (T.state desk.old) (T.state desk.new)) }
         ensures table { self.new.view.filter.table ≡ self.old.view.filter.table }
         ensures places { self.new.places ≡ self.old.places }
+        ensures waiting { self.new.waiting ≡ self.old.waiting }
     {
         match command_in(form) {
             Some(Command::Transact(asked)) => self.transact(rt, desk, clock, guard, asked),
@@ -111,6 +112,7 @@ impl<S: Selector> Session<S> {
         ensures tally { (T.state desk.new).tally ≡ glanced (T.state desk.old).tally }
         ensures filter { self.new.view.filter ≡ self.old.view.filter }
         ensures places { self.new.places ≡ self.old.places }
+        ensures waiting { self.new.waiting ≡ self.old.waiting }
     {
         match desk.db()? {
             Glance::Fresh(snapshot) => self.show(snapshot),
@@ -132,6 +134,7 @@ impl<S: Selector> Session<S> {
         ensures loads { OnErr result (LoadsOnceAtMost (T.state desk.old) (T.state desk.new)) }
         ensures filter { self.new.view.filter ≡ self.old.view.filter }
         ensures places { self.new.places ≡ self.old.places }
+        ensures waiting { self.new.waiting ≡ self.old.waiting }
     {
         let snapshot = desk.sync(rt)?;
         self.show(snapshot)

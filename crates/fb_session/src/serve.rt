@@ -1,25 +1,23 @@
 //! The loop over the forms of a script.
 ghost use denote.Param.Send.{IsSync};
-ghost use Rattle.std.specs.Prelude.{◌≡◌, ◌≤◌, ◌<◌, ◌+◌, ◌++◌, Some, IfOk, IfErr, OnOk, length, map};
+ghost use Rattle.std.specs.Prelude.{◌≡◌, ◌≤◌, ◌++◌, ℕ, List, Some, IfOk, IfErr, length, map};
 ghost use Rattle.std.specs.List.{last_or};
 ghost use Rattle.edn_form.specs.View.{form_of};
 ghost use Rattle.fb_model.specs.History.{basis};
 ghost use Rattle.talk_model.specs.Script.{most_commands};
 ghost use Rattle.talk_model.specs.Prefixes.{Prefixes};
-ghost use Rattle.talk_model.specs.Session.{Standing};
-ghost use Rattle.fb_desk.specs.Desks.{GoesOn, WentOn};
+ghost use Rattle.fb_desk.specs.Desks.{WentOn};
 ghost use Rattle.fb_session.specs.Asks.{Asks};
 ghost use Rattle.fb_session.specs.Replies.{Replies, SourceCount, SinkCount};
-ghost use Rattle.fb_session.specs.Sessions.{over, HasStanding, IsOpened, Replied, StopsAt, StopCount, end_of, IsCommand, NoCommand, served_by, Talks};
+ghost use Rattle.fb_session.specs.Sessions.{over, IsOpened, IsCommand, NoCommand, Finishes, FinishCount, served_by, Talks};
 ghost use Rattle.fb_session.specs.Terms.{terms_at};
+ghost use Rattle.fb_session.specs.WaitingLines.{Waits};
 
 use crate::outcome::{Served, SessionEnd};
 use crate::reading::{ReadStop, read_script};
 use crate::session::Session;
-use crate::writing::write_line;
 use edn_core::{Edn, EdnFault, Frames, read_form_in};
 use fb_desk::Desk;
-use fb_memory::Memory;
 use fb_ports::{Clock, Sink, Source};
 use fb_preds::{FilterTable, Picks};
 use fb_view::Snapshot;
@@ -30,35 +28,6 @@ use tx_step::Guard;
 
 /// How many commands a script may have.
 const MOST_COMMANDS: usize = 1_000_000;
-
-/// Why a form was not answered.
-#[derive(Drop)]
-pub(crate) enum AnswerError {
-    WriteFault,
-    Memory,
-}
-
-impl AnswerError {
-    /// How a session ends that stops so.
-    fn end(self) -> SessionEnd
-        ensures { result ≡ end_of self }
-    {
-        match self {
-            AnswerError::WriteFault => SessionEnd::WriteFault,
-            AnswerError::Memory => SessionEnd::Memory,
-        }
-    }
-}
-
-impl From<Memory> for AnswerError {
-    ghost use Rattle.fb_session.specs.declared.serve.AnswerError.{AnswerError};
-
-    ghost from_gives = { λ _ stop. stop ≡ AnswerError.Memory };
-
-    fn from(_: Memory) -> AnswerError {
-        AnswerError::Memory
-    }
-}
 
 /// Runs one script: reads the source to its end, and then answers its forms, one line each.
 pub fn serve_desk<
@@ -190,7 +159,7 @@ impl<P: FilterTable> Session<Picks<'_, P>> {
                     }
                     at = next;
                 }
-                Err(end) => return end,
+                Err(end) => return self.finish(sink, end),
             }
         }
     }
@@ -216,52 +185,18 @@ impl<P: FilterTable> Session<Picks<'_, P>> {
         }
     }
 
-    /// Answers the form and writes its line.
-    fn answer<R: Threads + Wait + Sync, O: Sink, T: Desk, K: Clock, G: Guard<Snapshot>>(
-        &mut self,
-        rt: &R,
-        alloc: Global,
-        sink: &mut O,
-        desk: &mut T,
-        clock: &K,
-        guard: &G,
-        form: &Edn,
-    ) -> Result<(), AnswerError>
-        requires sync { IsSync R.row }
-        requires left { 0 < (T.state desk.old).left }
-        ensures goes_on { GoesOn (T.state desk.old) (T.state desk.new) }
-        ensures ok { let table = self.old.view.filter.table.now in OnOk result
-            ((before : Standing)
-            → HasStanding self.old.view (λ p. map (P.name_at p.table.now) p.places.items)
-            (T.state desk.old) before
-            → Replied
-            (terms_at K.may_answer G.bars P.place_of P.selects_at clock.now guard.now table)
-            (form_of form.now) self.old self.new (λ p. map (P.name_at p.table.now) p.places.items)
-            (T.state desk.old) (T.state desk.new) before (O.contents sink.old)
-            (O.contents sink.new)) }
-        ensures err { let table = self.old.view.filter.table.now in IfErr result
-            (λ stop. (before : Standing)
-            → HasStanding self.old.view (λ p. map (P.name_at p.table.now) p.places.items)
-            (T.state desk.old) before
-            → StopsAt
-            (terms_at K.may_answer G.bars P.place_of P.selects_at clock.now guard.now table)
-            (form_of form.now) self.old self.new (λ p. map (P.name_at p.table.now) p.places.items)
-            (T.state desk.old) (T.state desk.new) before (O.contents sink.old) (O.contents sink.new)
-            stop) }
-        ensures table { self.new.view.filter.table ≡ self.old.view.filter.table }
-        ensures places { OnOk result
-            (length self.new.places.items ≡ length self.old.places.items + 1) }
-        ensures count { OnOk result (O.faults sink.new ≡ O.faults sink.old) }
-        ensures stop_count { IfErr result
-            (λ stop. StopCount stop (O.faults sink.old) (O.faults sink.new)) }
+    /// Ends so, when the lines that wait have gone out.
+    fn finish<O: Sink>(&mut self, sink: &mut O, end: SessionEnd) -> SessionEnd
+        ensures rest { self.new
+            ≡ record self.old { places = self.new.places; waiting = self.new.waiting } }
+        ensures ends { (lines : List (List ℕ)) → Waits self.old.waiting lines
+            → Finishes lines self.old.places.items self.new.places.items (O.contents sink.old)
+            (O.contents sink.new) end result }
+        ensures count { FinishCount end result (O.faults sink.old) (O.faults sink.new) }
     {
-        self.make_room()?;
-        self.reply(rt, alloc, desk, clock, guard, form)?;
-        if write_line(sink, self.line.bytes.as_slice()).is_err() {
-            return Err(AnswerError::WriteFault);
+        if self.write_waiting(sink).is_err() {
+            return SessionEnd::WriteFault;
         }
-        let place = self.place();
-        self.places.push_reserved(place);
-        Ok(())
+        end
     }
 }

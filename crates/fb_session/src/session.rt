@@ -5,6 +5,7 @@ ghost use Rattle.fb_session.specs.Sessions.{IsOpened, served_by};
 
 use crate::line::Line;
 use crate::outcome::{Places, Served, SessionEnd};
+use crate::waiting::Waiting;
 use fb_db::Db;
 use fb_desk::Desk;
 use fb_memory::Memory;
@@ -17,11 +18,14 @@ use std::alloc::Global;
 pub(crate) struct Session<S> {
     /// What its reads see. The snapshot is the last one that the desk was answered.
     pub(crate) view: Db<S>,
-    /// For each line that was written whole, the t of the last entry that it rests on.
+    /// For each line that was written whole or waits, the t of the last entry that it rests on.
     pub(crate) places: Vec<u32>,
     /// The t of each transaction that was committed.
     pub(crate) commits: Vec<u32>,
+    /// The line that was built last.
     pub(crate) line: Line,
+    /// The lines that go out next.
+    pub(crate) waiting: Waiting,
 }
 
 impl<'p, P: FilterTable> Session<Picks<'p, P>> {
@@ -43,6 +47,7 @@ impl<'p, P: FilterTable> Session<Picks<'p, P>> {
             places: Vec::new(alloc),
             commits: Vec::new(alloc),
             line: Line::empty(alloc),
+            waiting: Waiting::none(alloc),
         })
     }
 }
@@ -53,6 +58,7 @@ impl<S: Selector> Session<S> {
         ensures view { self.new.view ≡ self.old.view }
         ensures places { self.new.places.items ≡ self.old.places.items }
         ensures commits { self.new.commits.items ≡ self.old.commits.items }
+        ensures waiting { self.new.waiting ≡ self.old.waiting }
         ensures place { OnOk result (vec_len self.new.places < vec_capacity self.new.places) }
         ensures commit { OnOk result (vec_len self.new.commits < vec_capacity self.new.commits) }
     {

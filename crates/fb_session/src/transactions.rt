@@ -42,6 +42,7 @@ impl<S: Selector> Session<S> {
         ensures loads { OnErr result (LoadsOnceAtMost (T.state desk.old) (T.state desk.new)) }
         ensures filter { self.new.view.filter ≡ self.old.view.filter }
         ensures places { self.new.places ≡ self.old.places }
+        ensures waiting { self.new.waiting ≡ self.old.waiting }
     {
         match desk.transact(rt, clock, guard, asked, &mut self.line) {
             Ok(receipt) => {
@@ -61,6 +62,7 @@ impl<S: Selector> Session<S> {
         ensures view { self.new.view ≡ record self.old.view { snapshot = receipt.snapshot } }
         ensures commits { self.new.commits.items ≡ self.old.commits.items ++ receipt.t ∷ [] }
         ensures places { self.new.places ≡ self.old.places }
+        ensures waiting { self.new.waiting ≡ self.old.waiting }
         ensures line { self.new.line ≡ self.old.line }
     {
         self.see(receipt.snapshot);

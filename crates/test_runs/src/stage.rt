@@ -77,7 +77,7 @@ impl Gate for Stage {
     }
 }
 
-/// A sink that takes each line in its turn.
+/// A sink that takes each line in its turn. Lines that come together are one speaker's, and follow one another in the play.
 #[derive(Drop)]
 pub(crate) struct TurnSink<'a> {
     pub(crate) sink: MemSink,
@@ -96,12 +96,24 @@ impl Sink for TurnSink<'_> {
     }
 
     fn write(&mut self, piece: &[u8]) -> Result<usize, Failed> {
-        if let Some(line) = self.turns.pop() {
-            self.stage.await_line(line);
+        if let Some(line) = self.turns.last() {
+            self.stage.await_line(*line);
         }
-        let taken = self.sink.write(piece);
-        self.stage.lines.fetch_add(1, Ordering::SeqCst);
-        taken
+        let taken = self.sink.write(piece)?;
+        self.pass_lines(&piece[..taken]);
+        Ok(taken)
+    }
+}
+
+impl TurnSink<'_> {
+    /// The lines that end in these bytes were taken.
+    fn pass_lines(&mut self, bytes: &[u8]) {
+        for byte in bytes.iter() {
+            if *byte == b'\n' {
+                let _line = self.turns.pop();
+                self.stage.lines.fetch_add(1, Ordering::SeqCst);
+            }
+        }
     }
 }
 

@@ -1,8 +1,10 @@
-use Rattle.std.proofs.Common.{refl, ◌∙◌, subst, map, arith, Bor}
+use Rattle.std.proofs.Common.{ℕ, [], ◌∷◌, length, length-append, refl, ap, ◌∙◌, subst, map, arith, Bor}
 use Rattle.edn_form.specs.View.{form_of}
+use Rattle.talk_model.specs.Talk.{lines_of}
+use Rattle.fb_session.specs.Replies.{SinkCount}
 use Rattle.fb_session.specs.Sessions.{Replied, StopsAt}
 use Rattle.fb_session.specs.Terms.{terms_at}
-use Rattle.fb_session.proofs.TalkingOn.{talk-opened, talk-replied, talk-no_command, talk-stops}
+use Rattle.fb_session.proofs.TalkingOn.{talk-opened, talk-replied, talk-finished, talk-stops, finish-count}
 use Rattle.fb_session.proofs.serve.Session+Picks+P.answer_all.Goals as goal
 
 pub forms-init : goal.forms-init
@@ -16,7 +18,16 @@ forms-init g c =
 
 pub returns-in-Err-clause-answers : goal.returns-in-Err-clause-answers
 returns-in-Err-clause-answers g c =
-    talk-no_command _ _ c.args.script.now _ _ c.forms.self _ _ c.forms.at c.forms.invariant.talk c.in-Err.end c.in-Err.ensures.err
+    let so_far = c.forms.invariant.talk in
+    let finish = c.finish in
+    talk-finished _ _ c.args.script.now _ _ c.forms.self _ _ c.forms.at so_far c.in-Err.end finish.result finish.new.self _
+    c.in-Err.ensures.err (ap (λ s. s.commits.items) finish.ensures.rest) (finish.ensures.ends _ so_far.waits)
+
+pub returns-in-Err-clause-count : goal.returns-in-Err-clause-count
+returns-in-Err-clause-count g c =
+    let Counts : ℕ → Type 0 = λ n. SinkCount c.finish.result n (g.O.Sink.faults c.finish.new.sink) in
+    subst Counts c.forms.invariant.count
+    (finish-count c.args.script.now c.forms.at _ c.in-Err.end c.finish.result _ _ c.in-Err.ensures.err c.finish.ensures.count)
 
 pub returns-in-Err-answered-clause-answers : goal.returns-in-Err-answered-clause-answers
 returns-in-Err-answered-clause-answers g c =
@@ -31,8 +42,8 @@ returns-in-Err-answered-clause-answers g c =
     (terms_at g.K.Clock.may_answer g.G.Guard.bars g.P.FilterTable.place_of g.P.FilterTable.selects_at c.args.clock.now
     c.args.guard.now table.now) form c.forms.self new
     (λ p. map (g.P.FilterTable.name_at p.table.now) p.places.items) (state c.forms.desk) (state c.answer-answered.new.desk) so_far.standing
-    (contents c.forms.sink) (contents c.answer-answered.new.sink) c.in-Err-answered.stop)
-    c.forms.invariant.table (c.in-Err-answered.ensures.err so_far.standing so_far.stands) in
+    (lines_of so_far.held) (contents c.forms.sink) (contents c.answer-answered.new.sink) c.in-Err-answered.stop)
+    c.forms.invariant.table (c.in-Err-answered.ensures.became so_far.standing so_far.stands (lines_of so_far.held) so_far.waits) in
     rw c.end.ensures
     (talk-stops _ _ c.args.script.now _ (state c.forms.desk) c.forms.self _ _ c.forms.at so_far
     (state c.answer-answered.new.desk) new c.answer-answered.ensures.goes_on c.in-Ok.next form
@@ -51,11 +62,18 @@ forms-preserved g c =
     (terms_at g.K.Clock.may_answer g.G.Guard.bars g.P.FilterTable.place_of g.P.FilterTable.selects_at c.args.clock.now
     c.args.guard.now table.now) form c.forms.self new
     (λ p. map (g.P.FilterTable.name_at p.table.now) p.places.items) (state c.forms.desk) (state c.answer-answered.new.desk) so_far.standing
-    (contents c.forms.sink) (contents c.answer-answered.new.sink))
-    c.forms.invariant.table (c.in_default.ensures.ok so_far.standing so_far.stands) in
+    (lines_of so_far.held) (contents c.forms.sink) (contents c.answer-answered.new.sink))
+    c.forms.invariant.table (c.in_default.ensures.became so_far.standing so_far.stands (lines_of so_far.held) so_far.waits) in
     record {
       table = c.answer-answered.ensures.table ∙ c.forms.invariant.table;
-      left = omega (arith, c.forms.invariant.left, c.answer-answered.ensures.goes_on.left, c.in_default.ensures.places);
+      left =
+          omega (
+            arith,
+            c.forms.invariant.left,
+            c.answer-answered.ensures.goes_on.left,
+            ap length replied.places,
+            length-append c.forms.self.places.items (replied.answered.after.place ∷ []),
+          );
       talk =
           talk-replied _ _ c.args.script.now _ (state c.forms.desk) c.forms.self _ _ c.forms.at so_far
           (state c.answer-answered.new.desk) new c.answer-answered.ensures.goes_on c.in-Ok.next form
