@@ -45,6 +45,44 @@ use Rattle.fb_session.specs.Asks.{is_for_desk, Counted, Asks}
 use Rattle.fb_session.specs.declared.waiting.Waiting.{Waiting}
 use Rattle.fb_session.specs.WaitingLines.{Waits, CutsOff, LineWaits, LineIsOut}
 
+-- ---- what it has
+
+-- what its reads see
+abbrev pub view_of : {S : Type 0} → Session S → Db S
+view_of session = session.view
+
+abbrev pub filter_of : {S : Type 0} → Session S → S
+filter_of session = session.view.filter
+
+-- where it answered
+abbrev pub places_in : {S : Type 0} → Session S → List ℕ
+places_in session = session.places.items
+
+-- what it committed
+abbrev pub commits_in : {S : Type 0} → Session S → List ℕ
+commits_in session = session.commits.items
+
+abbrev pub waiting_in : {S : Type 0} → Session S → Waiting
+waiting_in session = session.waiting
+
+abbrev pub waiting_bytes : {S : Type 0} → Session S → List ℕ
+waiting_bytes session = session.waiting.bytes.items
+
+-- ---- and what stays as it was
+
+abbrev pub KeepsPlaces : {S : Type 0} → Session S → Session S → Type 0
+KeepsPlaces old new = new.places ≡ old.places
+
+-- all but its places and what waits
+abbrev pub DiffersInWaiting : {S : Type 0} → Session S → Session S → Type 0
+DiffersInWaiting old new = new ≡ record old { places = new.places; waiting = new.waiting }
+
+-- it has let go of its places and its commits, and of nothing else
+pub record Forgets {S : Type 0} (old new : Session S) : Type 0 where
+  pub places : new.places.items ≡ []
+  pub commits : new.commits.items ≡ []
+  pub rest : new ≡ record old { places = new.places; commits = new.commits }
+
 -- ---- what it is answered by
 
 -- with what its desk was answered by now

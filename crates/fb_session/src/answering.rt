@@ -9,7 +9,7 @@ ghost use Rattle.talk_model.specs.Session.{Standing};
 ghost use Rattle.fb_ports.specs.Faults.{Counts};
 ghost use Rattle.fb_desk.specs.Desks.{GoesOn};
 ghost use Rattle.fb_session.specs.Asks.{is_for_desk};
-ghost use Rattle.fb_session.specs.Sessions.{HasStanding, Answered, Unanswered, Became, StopCount, end_of};
+ghost use Rattle.fb_session.specs.Sessions.{HasStanding, Answered, Unanswered, Became, StopCount, filter_of, end_of};
 ghost use Rattle.fb_session.specs.Terms.{terms_at};
 ghost use Rattle.fb_session.specs.WaitingLines.{Waits, IsKept, IsBroken};
 ghost use Rattle.fb_session.specs.Written.{TakesPart};
@@ -29,10 +29,12 @@ use std::sync::Wait;
 use std::thread::Threads;
 use tx_step::Guard;
 
-/// Why a form was not answered.
+/// Why a form was not answered, or its line not written.
 #[derive(Drop)]
-pub(crate) enum AnswerError {
+pub enum AnswerError {
+    /// The sink failed.
     WriteFault,
+    /// Memory was refused.
     Memory,
 }
 
@@ -82,8 +84,9 @@ fn is_for_desk(form: &Edn) -> bool
 }
 
 impl<P: FilterTable> Session<Picks<'_, P>> {
-    /// Answers the form.
-    pub(crate) fn answer<R: Threads + Wait + Sync, O: Sink, T: Desk, K: Clock, G: Guard<Snapshot>>(
+    /// Answers the form by one line, which is written behind those that waited, or waits with
+    /// them. Where the desk is asked for the form, none waits before or after.
+    pub fn answer<R: Threads + Wait + Sync, O: Sink, T: Desk, K: Clock, G: Guard<Snapshot>>(
         &mut self,
         rt: &R,
         alloc: Global,
@@ -101,7 +104,7 @@ impl<P: FilterTable> Session<Picks<'_, P>> {
             (form_of form.now) self.old self.new (λ p. map (P.name_at p.table.now) p.places.items)
             (T.state desk.old) (T.state desk.new) (O.contents sink.old) (O.contents sink.new)
             result }
-        ensures table { self.new.view.filter.table ≡ self.old.view.filter.table }
+        ensures table { (filter_of self.new).table ≡ (filter_of self.old).table }
         ensures count { MatchResult result (λ _. O.faults sink.new ≡ O.faults sink.old)
             (λ stop. StopCount stop (O.faults sink.old) (O.faults sink.new)) }
     {

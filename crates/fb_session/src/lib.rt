@@ -1,4 +1,4 @@
-//! A session: the forms of one script, answered one after another at a desk.
+//! A session: forms that are answered one after another at a desk, as those of one script are.
 #![tactic(auto)]
 
 mod answering;
@@ -13,6 +13,8 @@ mod transactions;
 mod waiting;
 mod writing;
 
+pub use answering::AnswerError;
 pub use laws::{a_longer_history_keeps_prefixes, a_longer_history_keeps_replies};
 pub use outcome::{Places, Served, SessionEnd};
 pub use serve::serve_desk;
+pub use session::Session;

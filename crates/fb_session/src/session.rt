@@ -1,7 +1,7 @@
 //! What a session keeps between two commands.
 ghost use Rattle.std.specs.Prelude.{◌≡◌, ◌<◌, IfOk, OnOk, vec_len, vec_capacity, map};
 ghost use Rattle.fb_model.specs.History.{basis};
-ghost use Rattle.fb_session.specs.Sessions.{IsOpened, served_by};
+ghost use Rattle.fb_session.specs.Sessions.{IsOpened, Forgets, filter_of, served_by};
 
 use crate::line::Line;
 use crate::outcome::{Places, Served, SessionEnd};
@@ -13,9 +13,10 @@ use fb_preds::{FilterTable, Picks, Selector};
 use fb_view::Snapshot;
 use std::alloc::Global;
 
-/// A session with such a filter.
+/// A session with such a filter: what its reads see, what it answered so far, and the lines that
+/// wait to go out together.
 #[derive(Drop)]
-pub(crate) struct Session<S> {
+pub struct Session<S> {
     /// What its reads see. The snapshot is the last one that the desk was answered.
     pub(crate) view: Db<S>,
     /// For each line that was written whole or waits, the t of the last entry that it rests on.
@@ -29,15 +30,15 @@ pub(crate) struct Session<S> {
 }
 
 impl<'p, P: FilterTable> Session<Picks<'p, P>> {
-    /// It has seen what the desk was answered last.
-    pub(crate) fn open<T: Desk>(
+    /// A session that has seen what the desk was answered last, and did nothing yet.
+    pub fn open<T: Desk>(
         alloc: Global,
         desk: &T,
         preds: &'p P,
     ) -> Result<Session<Picks<'p, P>>, Memory>
         ensures opened { IfOk result (λ session. IsOpened session
             (λ p. map (P.name_at p.table.now) p.places.items) (T.state desk.now)) }
-        ensures table { IfOk result (λ session. session.view.filter.table.now ≡ preds.now) }
+        ensures table { IfOk result (λ session. (filter_of session).table.now ≡ preds.now) }
     {
         let snapshot = desk.snapshot().share()?;
         // This call brings into the proof that the snapshot's history is lawful.
@@ -65,6 +66,14 @@ impl<S: Selector> Session<S> {
         self.places.reserve(1)?;
         self.commits.reserve(1)?;
         Ok(())
+    }
+
+    /// Lets go of where it answered so far and of what it committed. It goes on as before.
+    pub fn forget(&mut self)
+        ensures { Forgets self.old self.new }
+    {
+        self.places.clear();
+        self.commits.clear();
     }
 
     /// Sees this from now on, through the same window and filters.

@@ -3,6 +3,7 @@ ghost use Rattle.std.specs.Prelude.{◌≡◌, ◌<◌, true, ◌-◌, ◌++◌,
 ghost use Rattle.std.specs.List.{prefix_len};
 ghost use Rattle.std.specs.Io.KnownBytes.{append_known};
 ghost use Rattle.fb_ports.specs.Faults.{Counts};
+ghost use Rattle.fb_session.specs.Sessions.{DiffersInWaiting, KeepsPlaces, places_in, waiting_in, waiting_bytes};
 ghost use Rattle.fb_session.specs.WaitingLines.{most_waiting, Waits, CutsOff};
 
 use crate::session::Session;
@@ -81,15 +82,14 @@ fn ends_reached(ends: &[usize], out: usize) -> usize
 impl<S: Selector> Session<S> {
     /// Writes the lines that wait. Where the sink fails, the places of those are dropped that it
     /// has not taken whole.
-    pub(crate) fn write_waiting<O: Sink>(&mut self, sink: &mut O) -> Result<(), Failed>
-        ensures rest { self.new
-            ≡ record self.old { places = self.new.places; waiting = self.new.waiting } }
-        ensures places { OnOk result (self.new.places ≡ self.old.places) }
-        ensures none { OnOk result (Waits self.new.waiting []) }
+    pub fn write_waiting<O: Sink>(&mut self, sink: &mut O) -> Result<(), Failed>
+        ensures rest { DiffersInWaiting self.old self.new }
+        ensures places { OnOk result (KeepsPlaces self.old self.new) }
+        ensures none { OnOk result (Waits (waiting_in self.new) []) }
         ensures whole { OnOk result (O.contents sink.new
-            ≡ append_known (O.contents sink.old) self.old.waiting.bytes.items) }
-        ensures part { OnErr result ((lines : List (List ℕ)) → Waits self.old.waiting lines
-            → CutsOff lines self.old.places.items self.new.places.items (O.contents sink.old)
+            ≡ append_known (O.contents sink.old) (waiting_bytes self.old)) }
+        ensures part { OnErr result ((lines : List (List ℕ)) → Waits (waiting_in self.old) lines
+            → CutsOff lines (places_in self.old) (places_in self.new) (O.contents sink.old)
             (O.contents sink.new)) }
         ensures counted { Counts result (O.faults sink.old) (O.faults sink.new) }
     {
