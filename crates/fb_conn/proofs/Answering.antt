@@ -8,12 +8,13 @@ use Rattle.edn_model.specs.Form.{Form}
 use Rattle.fb_values.specs.declared.facts.Entry.{Entry}
 use Rattle.fb_model.specs.History.{basis}
 use Rattle.fb_model.specs.Lawful.{IsLawful}
-use Rattle.tx_model.specs.Step.{Guard, step, accepted}
+use Rattle.tx_refusals.specs.declared.reasons.Refusal.{Refusal}
+use Rattle.tx_model.specs.Step.{Guard, step, accepted, refused}
 use Rattle.fb_view.specs.SnapshotModel.{SnapshotModel}
 use Rattle.fb_core.specs.declared.accepting.Draft.{Draft}
 use Rattle.fb_core.specs.Cores.{entry_of}
 use Rattle.fb_desk.specs.declared.answers.Receipt.{Receipt}
-use Rattle.fb_desk.specs.Desks.{GoesOn, IsReceipt, IsNotAccepted, IsLogFault, IsStopped, IsOutOfMemory}
+use Rattle.fb_desk.specs.Desks.{GoesOn, IsReceipt, IsNotAccepted, IsRefusal, IsLogFault, IsStopped, IsOutOfMemory}
 use Rattle.board_rule.specs.declared.view.Stop.{Stop}
 use Rattle.board_rule.specs.declared.view.Marks.{Marks}
 use Rattle.board_rule.specs.declared.view.Code.{Code}
@@ -93,10 +94,6 @@ module _ (t u : TableId) (v w x : View Code) (ticket : ℕ) (last h : List Entry
         snapshot_is = is;
       }
 
-  pub is_not_accepted : x ≡ left_seen code_of w h marks → (new : List Entry) (s : SnapshotModel) → s.entries ≡ new
-      → IsNotAccepted (state_by t v last) (state_by u x new) s
-  is_not_accepted = not_accepted marks
-
   same_teller : x.number ≡ v.number → x.stop ≡ marks.stop → is_own x.number x.stop ≡ is_own v.number v.stop
   same_teller number stop = (λ i. is_own (number i) (stop i)) ∙ same_own v.number v.stop marks.stop learns.stop learns.own_stop
 
@@ -135,8 +132,17 @@ module _ (t u : TableId) (v w x : View Code) (ticket : ℕ) (last h : List Entry
     nobody_knows : option_map at_of v.stop ≡ None
     nobody_knows = untold v.stop marks.stop none learns.stop
 
-    pub still_going : x ≡ left_seen code_of w h marks → option_map at_of x.stop ≡ None
-    still_going ends = ap (λ (z : View Code). option_map at_of z.stop) ends ∙ ap (option_map at_of) none
+    -- refused, whatever the clock reads
+    pub refusal_is : x ≡ left_seen code_of w h marks → (guard : Guard) (asked : Form) (refusal : Refusal)
+        → ((reading : ℤ) → step h asked reading guard ≡ refused refusal) → (new : List Entry) → new ≡ h
+        → (s : SnapshotModel) → s.entries ≡ h
+        → IsRefusal guard asked (state_by t v last) (state_by u x new) refusal s
+    refusal_is ends guard asked refusal decided new is s entries =
+        record {
+          going = ap (λ (z : View Code). option_map at_of z.stop) ends ∙ ap (option_map at_of) none;
+          step_is = λ reading. ap (λ (l : List Entry). step l asked reading guard) is ∙ decided reading;
+          rest = not_accepted marks ends new s (entries ∙ sym is);
+        }
 
     module _ (draft : Draft) where
       pub goes_on_committed : (n met : ℕ) → x ≡ committed w draft.after.entries n marks met → draft.after.entries ≡ h ++ entry_of draft ∷ []

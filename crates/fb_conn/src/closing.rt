@@ -52,6 +52,7 @@ impl<L: Log> Conn<L> {
             alloc: _,
             board,
             bell: _,
+            tray: _,
             merge_at: _,
         } = self;
         let Seat {

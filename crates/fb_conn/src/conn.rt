@@ -12,6 +12,7 @@ use crate::bell::{Bell, Doorbell};
 use crate::home::Home;
 use crate::letters::{Letter, letters_of};
 use crate::seats::Seat;
+use crate::tray::Tray;
 use board_seats::{Board, BoardSeat, BoardStop, Mails, Opened, Patience, open};
 use fb_core::Core;
 use fb_log::Log;
@@ -26,6 +27,8 @@ pub struct Conn<L: Log> {
     pub(crate) alloc: Global,
     pub(crate) board: Board<Home<L>, Letter>,
     pub(crate) bell: Doorbell,
+    /// Where sessions in line suppose what comes.
+    pub(crate) tray: Option<Tray<L::Record>>,
     pub(crate) merge_at: u64,
 }
 
@@ -106,7 +109,8 @@ fn seats_of(boards: Vec<BoardSeat>, lasts: Vec<Snapshot>, room: Vec<Seat>) -> Ve
 
 impl<L: Log> Conn<L> {
     /// Opens a database of 1 to 16 sessions. Merges are due from `merge_at` live datoms on, and who waits for a turn stays awake as
-    /// `patience` says. All memory is taken here: where it runs out, what was handed in is handed back.
+    /// `patience` says; where two are awake, they suppose what the turns before theirs come to. All memory is taken here: where it
+    /// runs out, what was handed in is handed back.
     pub fn new(
         alloc: Global,
         core: Core,
@@ -146,6 +150,11 @@ impl<L: Log> Conn<L> {
             worker: last,
         } = shares;
         let home = Home::new(alloc, core, log)?;
+        let tray = if patience.is_of_both() {
+            Some(Tray::new())
+        } else {
+            None
+        };
         match open(alloc, home, Mails::of(mails), patience) {
             Ok(
                 Opened {
@@ -158,6 +167,7 @@ impl<L: Log> Conn<L> {
                     alloc,
                     board,
                     bell: Doorbell::new(),
+                    tray,
                     merge_at,
                 },
                 seats: seats_of(seats, lasts, room),

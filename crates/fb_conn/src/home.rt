@@ -161,8 +161,8 @@ impl<L: Log> Home<L> {
         self.kept.core.decide(asked, now, author, guard)
     }
 
-    /// Adds an entry to the log by its record.
-    pub(crate) fn add(&mut self, made: &L::Record) -> Result<(), Failed>
+    /// Adds an entry to the log by its record, and beside it the record that is likely to come next, where there is one.
+    pub(crate) fn add(&mut self, made: &L::Record, next: Option<L::Record>) -> Result<(), Failed>
         ensures kept { OnOk result ((begun : L) (h : List Entry) (entry : Entry)
             → L.is_of made.now entry → IsLawfulAfter h entry → L.keeps begun h self.old.log
             → L.keeps begun (h ++ entry ∷ []) self.new.log) }
@@ -171,7 +171,11 @@ impl<L: Log> Home<L> {
             → L.broke begun h entry self.new.log) }
         ensures rest { self.new ≡ record self.old { log = self.new.log } }
     {
-        self.kept.log.add(made)
+        let kept = &mut *self.kept;
+        match next {
+            Some(next) => kept.log.add_beside(made, next),
+            None => kept.log.add(made),
+        }
     }
 
     /// The core's newer value over the trees of `ahead`.

@@ -12,6 +12,8 @@ mod letters;
 mod merging;
 mod recording;
 mod seats;
+mod supposing;
+mod tray;
 mod turns;
 
 pub use bell::Bell;

@@ -55,13 +55,15 @@ impl<L: Log> Conn<L> {
         })
     }
 
-    /// Adds the draft's entry to the log, and accepts it where the log took it. It takes no memory.
+    /// Adds the draft's entry to the log, beside the record that is likely to come next, and accepts it where the log took it. It takes
+    /// no memory.
     pub(crate) fn append(
         &self,
         seat: &mut Seat,
         mut held: Held<Home<L>>,
         draft: Draft,
         ready: Ready<L::Record>,
+        next: Option<L::Record>,
     ) -> Result<Receipt, TxFault>
         requires turn { HasTurn self.now seat.old held.home }
         requires going { held.home.stop ≡ None }
@@ -89,7 +91,7 @@ impl<L: Log> Conn<L> {
         } = ready;
         // This call brings into the proof that the core represents its history.
         let _latest = held.home.snapshot();
-        match held.home.add(&made) {
+        match held.home.add(&made, next) {
             Ok(()) => Ok(self.commit(seat, held, draft, after, mails)),
             Err(_) => Err(self.stop(seat, held, draft, before)),
         }

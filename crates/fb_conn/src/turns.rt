@@ -14,7 +14,8 @@ use crate::conn::Conn;
 use crate::home::Home;
 use crate::letters::Letter;
 use crate::seats::Seat;
-use board_seats::{Held, end, end_seen, enter};
+use crate::supposing::Supposing;
+use board_seats::{Held, end, end_seen, enter, enter_after};
 use edn_form::Edn;
 use fb_core::{Guard, TxStop};
 use fb_desk::{Receipt, Reply, TxFault};
@@ -97,7 +98,14 @@ impl<L: Log> Conn<L> {
             (form_of asked.now) (state_of seat.old) (state_of seat.new)) }
     {
         refusals_do_not_depend_on_the_clock();
-        let held = enter(&self.board, rt, &mut seat.board);
+        let mut supposing = Supposing {
+            conn: self,
+            rt,
+            asked,
+            guard,
+            instant: None,
+        };
+        let held = enter_after(&self.board, rt, &mut seat.board, &mut supposing);
         // This call brings into the proof that the core represents its history.
         let _latest = held.home.snapshot();
         if let Some(stop) = held.home.stop() {
@@ -110,7 +118,10 @@ impl<L: Log> Conn<L> {
         let author = seat.board.number();
         match held.home.decide(asked, clock.now(), author, guard) {
             Ok(draft) => match self.prepare(&held.home, &draft, author, reply) {
-                Ok(ready) => self.append(seat, held, draft, ready),
+                Ok(ready) => {
+                    let next = supposing.next_record(seat, &draft);
+                    self.append(seat, held, draft, ready, next)
+                }
                 Err(_) => {
                     end(&self.board, &mut seat.board, held);
                     Err(TxFault::Memory)

@@ -6,14 +6,15 @@ use Rattle.fb_values.specs.declared.facts.Entry.{Entry}
 use Rattle.fb_model.specs.History.{basis}
 use Rattle.fb_model.proofs.LawfulHistories.{IsLawful-length}
 use Rattle.edn_model.specs.Form.{Form}
-use Rattle.tx_model.specs.Step.{Guard, step, refused}
+use Rattle.tx_refusals.specs.declared.reasons.Refusal.{Refusal}
+use Rattle.tx_model.specs.Step.{Guard}
 use Rattle.fb_view.specs.SnapshotModel.{SnapshotModel}
 use Rattle.fb_core.specs.Cores.{entry_of}
 use Rattle.fb_core.proofs.Histories.{next_basis}
 use Rattle.fb_desk.specs.declared.answers.Receipt.{Receipt}
 use Rattle.fb_desk.specs.declared.answers.TxFault.{TxFault}
 use Rattle.fb_desk.specs.declared.answers.TxFault.TheVariants.{Memory}
-use Rattle.fb_desk.specs.Desks.{State, IsFault, IsOutOfMemory}
+use Rattle.fb_desk.specs.Desks.{State, IsFault, IsRefusal, IsOutOfMemory}
 use Rattle.board_rule.specs.declared.view.View.{View}
 use Rattle.board_rule.specs.declared.view.Code.{Code}
 use Rattle.board_rule.specs.Views.{codes}
@@ -24,7 +25,7 @@ use Rattle.fb_conn.specs.Homes.{code_of, marks_of, named_stop, GoesWithLog}
 use Rattle.fb_conn.specs.Seats.{state_of}
 use Rattle.fb_conn.specs.Turns.{committed, stopped_at}
 use Rattle.fb_conn.proofs.States.{stays_seat}
-use Rattle.fb_conn.proofs.Answering.{by_outcome, if_ok, if_err, goes_on_shown, goes_on_left, is_not_accepted, is_stopped, is_out_of_memory, still_going}
+use Rattle.fb_conn.proofs.Answering.{by_outcome, if_ok, if_err, goes_on_shown, goes_on_left, is_stopped, is_out_of_memory, refusal_is}
 use Rattle.fb_conn.proofs.Answering.{goes_on_committed, goes_on_stopped, receipt_is, log_fault_is}
 use Rattle.fb_conn.proofs.conn.Conn.decide_in_turn.Goals as goal
 
@@ -40,10 +41,10 @@ pub returns-in_err-snapshot-clause-goes_on : goal.returns-in_err-snapshot-clause
 returns-in_err-snapshot-clause-goes_on g c =
     let old = c.args.seat.now in
     let new = c.show_latest.new.seat in
-    let home = c.enter-held.result.home in
-    let turn = c.enter-held.ensures in
+    let home = c.enter_after-held.result.home in
+    let turn = c.enter_after-held.ensures in
     let kept = c.in_err-snapshot.ensures.kept in
-    goes_on_left (board_of old.board) (board_of new.board) (view_of old.board) (view_of c.enter-held.new.seat)
+    goes_on_left (board_of old.board) (board_of new.board) (view_of old.board) (view_of c.enter_after-held.new.seat)
     (view_of new.board) turn.entered.0 old.last.entries home.core.snapshot.entries
     home.core.authors (marks_of home) (c.show_latest.ensures.seat ∙ turn.seat) turn.entered.1
     (turn.learns old.last.entries c.requires.seat.0.seen) kept.1 new.last.entries (ap (λ (k : SnapshotModel). k.entries) kept.0)
@@ -52,12 +53,12 @@ pub returns-in_err-snapshot-clause-fault : goal.returns-in_err-snapshot-clause-f
 returns-in_err-snapshot-clause-fault g c =
     let old = c.args.seat.now in
     let new = c.show_latest.new.seat in
-    let home = c.enter-held.result.home in
-    let turn = c.enter-held.ensures in
+    let home = c.enter_after-held.result.home in
+    let turn = c.enter_after-held.ensures in
     let kept = c.in_err-snapshot.ensures.kept in
     out_of_memory (g.K.Clock.may_answer c.args.clock.now) (g.G.Guard.bars c.args.guard.now) (form_of c.args.asked.now)
     (state_of old) (state_of new) c.from_residual.result c.from_residual.ensures.1
-    (is_out_of_memory (board_of old.board) (board_of new.board) (view_of old.board) (view_of c.enter-held.new.seat)
+    (is_out_of_memory (board_of old.board) (board_of new.board) (view_of old.board) (view_of c.enter_after-held.new.seat)
     (view_of new.board) turn.entered.0 old.last.entries home.core.snapshot.entries
     home.core.authors (marks_of home) (c.show_latest.ensures.seat ∙ turn.seat) turn.entered.1
     (turn.learns old.last.entries c.requires.seat.0.seen) kept.1 new.last.entries (ap (λ (k : SnapshotModel). k.entries) kept.0))
@@ -66,10 +67,10 @@ pub returns-in-Some-clause-goes_on : goal.returns-in-Some-clause-goes_on
 returns-in-Some-clause-goes_on g c =
     let old = c.args.seat.now in
     let new = c.show_latest.new.seat in
-    let home = c.enter-held.result.home in
-    let turn = c.enter-held.ensures in
+    let home = c.enter_after-held.result.home in
+    let turn = c.enter_after-held.ensures in
     let shown = c.in_ok-snapshot.ensures.shown in
-    goes_on_shown (board_of old.board) (board_of new.board) (view_of old.board) (view_of c.enter-held.new.seat)
+    goes_on_shown (board_of old.board) (board_of new.board) (view_of old.board) (view_of c.enter_after-held.new.seat)
     (view_of new.board) turn.entered.0 old.last.entries home.core.snapshot.entries
     home.core.authors (marks_of home) (c.show_latest.ensures.seat ∙ turn.seat) turn.entered.1
     (turn.learns old.last.entries c.requires.seat.0.seen) shown.2 new.last.entries (ap (λ (k : SnapshotModel). k.entries) shown.1)
@@ -79,13 +80,13 @@ pub returns-in-Some-clause-fault : goal.returns-in-Some-clause-fault
 returns-in-Some-clause-fault g c =
     let old = c.args.seat.now in
     let new = c.show_latest.new.seat in
-    let home = c.enter-held.result.home in
-    let turn = c.enter-held.ensures in
+    let home = c.enter_after-held.result.home in
+    let turn = c.enter_after-held.ensures in
     let shown = c.in_ok-snapshot.ensures.shown in
     let h = home.core.snapshot.entries in let stop = c.in-Some.stop in let is : home.stop ≡ Some stop = sym c.stop.ensures ∙ c.in-Some.is in
     let sound = subst (λ (o : Option Stop). GoesWithLog g.L.Log.keeps g.L.Log.broke home.begun.value h home.log o home.torn) is turn.sound.0 in
     let last = ap (λ (k : SnapshotModel). k.entries) shown.1 in
-    is_stopped (board_of old.board) (board_of new.board) (view_of old.board) (view_of c.enter-held.new.seat)
+    is_stopped (board_of old.board) (board_of new.board) (view_of old.board) (view_of c.enter_after-held.new.seat)
     (view_of new.board) turn.entered.0 old.last.entries h
     home.core.authors (marks_of home) (c.show_latest.ensures.seat ∙ turn.seat) turn.entered.1
     (turn.learns old.last.entries c.requires.seat.0.seen) shown.2 (named_stop stop) (ap (option_map named_stop) is)
@@ -98,10 +99,10 @@ pub returns-in_err-snapshot-in-Err-Refused-clause-goes_on : goal.returns-in_err-
 returns-in_err-snapshot-in-Err-Refused-clause-goes_on g c =
     let old = c.args.seat.now in
     let new = c.show_latest-in-Err-Refused.new.seat in
-    let home = c.enter-held.result.home in
-    let turn = c.enter-held.ensures in
+    let home = c.enter_after-held.result.home in
+    let turn = c.enter_after-held.ensures in
     let kept = c.in_err-snapshot-in-Err-Refused.ensures.kept in
-    goes_on_left (board_of old.board) (board_of new.board) (view_of old.board) (view_of c.enter-held.new.seat)
+    goes_on_left (board_of old.board) (board_of new.board) (view_of old.board) (view_of c.enter_after-held.new.seat)
     (view_of new.board) turn.entered.0 old.last.entries home.core.snapshot.entries
     home.core.authors (marks_of home) (c.show_latest-in-Err-Refused.ensures.seat ∙ turn.seat) turn.entered.1
     (turn.learns old.last.entries c.requires.seat.0.seen) kept.1 new.last.entries
@@ -111,13 +112,13 @@ pub returns-in_err-snapshot-in-Err-Refused-clause-fault : goal.returns-in_err-sn
 returns-in_err-snapshot-in-Err-Refused-clause-fault g c =
     let old = c.args.seat.now in
     let new = c.show_latest-in-Err-Refused.new.seat in
-    let home = c.enter-held.result.home in
-    let turn = c.enter-held.ensures in
+    let home = c.enter_after-held.result.home in
+    let turn = c.enter_after-held.ensures in
     let kept = c.in_err-snapshot-in-Err-Refused.ensures.kept in
     out_of_memory (g.K.Clock.may_answer c.args.clock.now) (g.G.Guard.bars c.args.guard.now) (form_of c.args.asked.now)
     (state_of old) (state_of new) c.from_residual-in_err-snapshot-in-Err-Refused.result
     c.from_residual-in_err-snapshot-in-Err-Refused.ensures.1
-    (is_out_of_memory (board_of old.board) (board_of new.board) (view_of old.board) (view_of c.enter-held.new.seat)
+    (is_out_of_memory (board_of old.board) (board_of new.board) (view_of old.board) (view_of c.enter_after-held.new.seat)
     (view_of new.board) turn.entered.0 old.last.entries home.core.snapshot.entries
     home.core.authors (marks_of home) (c.show_latest-in-Err-Refused.ensures.seat ∙ turn.seat) turn.entered.1
     (turn.learns old.last.entries c.requires.seat.0.seen) kept.1 new.last.entries
@@ -127,10 +128,10 @@ pub returns-in_ok-snapshot-in-Err-Refused-clause-goes_on : goal.returns-in_ok-sn
 returns-in_ok-snapshot-in-Err-Refused-clause-goes_on g c =
     let old = c.args.seat.now in
     let new = c.show_latest-in-Err-Refused.new.seat in
-    let home = c.enter-held.result.home in
-    let turn = c.enter-held.ensures in
+    let home = c.enter_after-held.result.home in
+    let turn = c.enter_after-held.ensures in
     let shown = c.in_ok-snapshot-in-Err-Refused.ensures.shown in
-    goes_on_shown (board_of old.board) (board_of new.board) (view_of old.board) (view_of c.enter-held.new.seat)
+    goes_on_shown (board_of old.board) (board_of new.board) (view_of old.board) (view_of c.enter_after-held.new.seat)
     (view_of new.board) turn.entered.0 old.last.entries home.core.snapshot.entries
     home.core.authors (marks_of home) (c.show_latest-in-Err-Refused.ensures.seat ∙ turn.seat) turn.entered.1
     (turn.learns old.last.entries c.requires.seat.0.seen) shown.2 new.last.entries
@@ -140,8 +141,8 @@ pub returns-in_ok-snapshot-in-Err-Refused-clause-fault : goal.returns-in_ok-snap
 returns-in_ok-snapshot-in-Err-Refused-clause-fault g c =
     let old = c.args.seat.now in
     let new = c.show_latest-in-Err-Refused.new.seat in
-    let home = c.enter-held.result.home in
-    let turn = c.enter-held.ensures in
+    let home = c.enter_after-held.result.home in
+    let turn = c.enter_after-held.ensures in
     let shown = c.in_ok-snapshot-in-Err-Refused.ensures.shown in
     let h = home.core.snapshot.entries in
     let learns = turn.learns old.last.entries c.requires.seat.0.seen in
@@ -150,28 +151,21 @@ returns-in_ok-snapshot-in-Err-Refused-clause-fault g c =
     let none : home.stop ≡ None = sym c.stop.ensures ∙ c.in_default.is in
     let asked = form_of c.args.asked.now in let guard = g.G.Guard.bars c.args.guard.now in
     let told = rw c.in-Err-Refused.field-0-is at c.in-Err-Refused.ensures in
-    record {
-      going =
-          still_going (board_of old.board) (board_of new.board) (view_of old.board) (view_of c.enter-held.new.seat)
-          (view_of new.board) turn.entered.0 old.last.entries h
-          home.core.authors (marks_of home) same turn.entered.1 learns (ap (option_map named_stop) none) shown.2;
-      step_is = λ other.
-          subst (λ (l : List Entry). step l asked other guard ≡ refused c.in-Err-Refused.refusal)
-          (sym last) (c.refusals_do_not_depend_on_the_clock.ensures h asked guard c.in-Err-Refused.refusal
-          (to_z w64 (of_z w64 c.now.result)) other told.refused);
-      rest =
-          is_not_accepted (board_of old.board) (board_of new.board) (view_of old.board) (view_of c.enter-held.new.seat)
-          (view_of new.board) turn.entered.0 old.last.entries h
-          home.core.authors (marks_of home) same turn.entered.1 learns shown.2 new.last.entries c.in_ok-snapshot-in-Err-Refused.snapshot
-          (ap (λ (k : SnapshotModel). k.entries) shown.0 ∙ sym last);
-    }
+    let shows = c.in_ok-snapshot-in-Err-Refused.snapshot in
+    subst (λ (r : Refusal). IsRefusal guard asked (state_of old) (state_of new) r shows) (sym c.in-Err-Refused.refusal-is)
+    (refusal_is (board_of old.board) (board_of new.board) (view_of old.board) (view_of c.enter_after-held.new.seat)
+    (view_of new.board) turn.entered.0 old.last.entries h
+    home.core.authors (marks_of home) same turn.entered.1 learns (ap (option_map named_stop) none) shown.2 guard asked c.in-Err-Refused.refusal
+    (λ reading. c.refusals_do_not_depend_on_the_clock.ensures h asked guard c.in-Err-Refused.refusal (to_z w64 (of_z w64 c.now.result)) reading
+    told.refused)
+    new.last.entries last shows (ap (λ (k : SnapshotModel). k.entries) shown.0))
 
 -- ---- memory was short
 
 pub returns-in-Err-clause-goes_on : goal.returns-in-Err-clause-goes_on
 returns-in-Err-clause-goes_on g c =
-    let old = c.args.seat.now in let home = c.enter-held.result.home in let turn = c.enter-held.ensures in
-    goes_on_left (board_of old.board) (board_of c.end.new.seat) (view_of old.board) (view_of c.enter-held.new.seat)
+    let old = c.args.seat.now in let home = c.enter_after-held.result.home in let turn = c.enter_after-held.ensures in
+    goes_on_left (board_of old.board) (board_of c.end.new.seat) (view_of old.board) (view_of c.enter_after-held.new.seat)
     (view_of c.end.new.seat) turn.entered.0 old.last.entries home.core.snapshot.entries
     home.core.authors (marks_of home) (c.end.ensures.seat ∙ turn.seat) turn.entered.1
     (turn.learns old.last.entries c.requires.seat.0.seen) c.end.ensures.left old.last.entries (λ i. old.last.entries)
@@ -179,18 +173,18 @@ returns-in-Err-clause-goes_on g c =
 pub returns-in-Err-Memory-clause-goes_on : goal.returns-in-Err-Memory-clause-goes_on
 returns-in-Err-Memory-clause-goes_on g c =
     let old = c.args.seat.now in
-    let home = c.enter-held.result.home in
-    let turn = c.enter-held.ensures in
+    let home = c.enter_after-held.result.home in
+    let turn = c.enter_after-held.ensures in
     let ended = c.end-in-Err-Memory in
-    goes_on_left (board_of old.board) (board_of ended.new.seat) (view_of old.board) (view_of c.enter-held.new.seat)
+    goes_on_left (board_of old.board) (board_of ended.new.seat) (view_of old.board) (view_of c.enter_after-held.new.seat)
     (view_of ended.new.seat) turn.entered.0 old.last.entries home.core.snapshot.entries
     home.core.authors (marks_of home) (ended.ensures.seat ∙ turn.seat) turn.entered.1
     (turn.learns old.last.entries c.requires.seat.0.seen) ended.ensures.left old.last.entries (λ i. old.last.entries)
 
 pub returns-in-Err-clause-fault : goal.returns-in-Err-clause-fault
 returns-in-Err-clause-fault g c =
-    let old = c.args.seat.now in let home = c.enter-held.result.home in let turn = c.enter-held.ensures in
-    is_out_of_memory (board_of old.board) (board_of c.end.new.seat) (view_of old.board) (view_of c.enter-held.new.seat)
+    let old = c.args.seat.now in let home = c.enter_after-held.result.home in let turn = c.enter_after-held.ensures in
+    is_out_of_memory (board_of old.board) (board_of c.end.new.seat) (view_of old.board) (view_of c.enter_after-held.new.seat)
     (view_of c.end.new.seat) turn.entered.0 old.last.entries home.core.snapshot.entries
     home.core.authors (marks_of home) (c.end.ensures.seat ∙ turn.seat) turn.entered.1
     (turn.learns old.last.entries c.requires.seat.0.seen) c.end.ensures.left old.last.entries (λ i. old.last.entries)
@@ -198,10 +192,10 @@ returns-in-Err-clause-fault g c =
 pub returns-in-Err-Memory-clause-fault : goal.returns-in-Err-Memory-clause-fault
 returns-in-Err-Memory-clause-fault g c =
     let old = c.args.seat.now in
-    let home = c.enter-held.result.home in
-    let turn = c.enter-held.ensures in
+    let home = c.enter_after-held.result.home in
+    let turn = c.enter_after-held.ensures in
     let ended = c.end-in-Err-Memory in
-    is_out_of_memory (board_of old.board) (board_of ended.new.seat) (view_of old.board) (view_of c.enter-held.new.seat)
+    is_out_of_memory (board_of old.board) (board_of ended.new.seat) (view_of old.board) (view_of c.enter_after-held.new.seat)
     (view_of ended.new.seat) turn.entered.0 old.last.entries home.core.snapshot.entries
     home.core.authors (marks_of home) (ended.ensures.seat ∙ turn.seat) turn.entered.1
     (turn.learns old.last.entries c.requires.seat.0.seen) ended.ensures.left old.last.entries (λ i. old.last.entries)
@@ -212,11 +206,11 @@ pub returns-in-Ok-prepare-clause-seat : goal.returns-in-Ok-prepare-clause-seat
 returns-in-Ok-prepare-clause-seat g c =
     let old = c.args.seat.now in
     let new = c.append.new.seat in
-    let home = c.enter-held.result.home in
-    let turn = c.enter-held.ensures in
+    let home = c.enter_after-held.result.home in
+    let turn = c.enter_after-held.ensures in
     let ended = c.append.ensures in
     let draft = c.in-Ok.draft in
-    let w = view_of c.enter-held.new.seat in
+    let w = view_of c.enter_after-held.new.seat in
     let h = home.core.snapshot.entries in
     let enters = turn.entered.1 in
     by_outcome c.append.result ended.accepted ended.stopped
@@ -238,8 +232,8 @@ pub returns-in-Ok-prepare-clause-goes_on : goal.returns-in-Ok-prepare-clause-goe
 returns-in-Ok-prepare-clause-goes_on g c =
     let old = c.args.seat.now in
     let new = c.append.new.seat in
-    let home = c.enter-held.result.home in
-    let turn = c.enter-held.ensures in
+    let home = c.enter_after-held.result.home in
+    let turn = c.enter_after-held.ensures in
     let ended = c.append.ensures in
     let draft = c.in-Ok.draft in
     let h = home.core.snapshot.entries in
@@ -247,12 +241,12 @@ returns-in-Ok-prepare-clause-goes_on g c =
     let none : home.stop ≡ None = sym c.stop.ensures ∙ c.in_default.is in
     let learns = turn.learns old.last.entries c.requires.seat.0.seen in
     by_outcome c.append.result ended.accepted ended.stopped
-    (λ receipt is. goes_on_committed (board_of old.board) (board_of new.board) (view_of old.board) (view_of c.enter-held.new.seat)
+    (λ receipt is. goes_on_committed (board_of old.board) (board_of new.board) (view_of old.board) (view_of c.enter_after-held.new.seat)
     (view_of new.board) turn.entered.0 old.last.entries h
     home.core.authors (marks_of home) (ended.seat ∙ turn.seat) turn.entered.1 learns (ap (option_map named_stop) none) draft receipt.t
     (view_of new.board).met is.2 own.entries
     own.stands.history.lawful new.last.entries (ap (λ (k : SnapshotModel). k.entries) is.0))
-    (λ fault is. goes_on_stopped (board_of old.board) (board_of new.board) (view_of old.board) (view_of c.enter-held.new.seat)
+    (λ fault is. goes_on_stopped (board_of old.board) (board_of new.board) (view_of old.board) (view_of c.enter_after-held.new.seat)
     (view_of new.board) turn.entered.0 old.last.entries h
     home.core.authors (marks_of home) (ended.seat ∙ turn.seat) turn.entered.1 learns
     (ap (option_map named_stop) none) draft is.2 new.last.entries (ap (λ (k : SnapshotModel). k.entries) is.0)
@@ -262,8 +256,8 @@ pub returns-in-Ok-prepare-clause-receipt : goal.returns-in-Ok-prepare-clause-rec
 returns-in-Ok-prepare-clause-receipt g c =
     let old = c.args.seat.now in
     let new = c.append.new.seat in
-    let home = c.enter-held.result.home in
-    let turn = c.enter-held.ensures in
+    let home = c.enter_after-held.result.home in
+    let turn = c.enter_after-held.ensures in
     let ended = c.append.ensures in
     let draft = c.in-Ok.draft in
     let h = home.core.snapshot.entries in
@@ -273,7 +267,7 @@ returns-in-Ok-prepare-clause-receipt g c =
     let reading = to_z w64 (of_z w64 c.now.result) in let fits : FitsSigned w64 c.now.result = search rules in
     let may = subst (g.K.Clock.may_answer c.args.clock.now) (sym (to_z-of_z w64 c.now.result fits)) c.now.ensures in
     if_ok c.append.result ended.accepted
-    (λ receipt is. receipt_is (board_of old.board) (board_of new.board) (view_of old.board) (view_of c.enter-held.new.seat)
+    (λ receipt is. receipt_is (board_of old.board) (board_of new.board) (view_of old.board) (view_of c.enter_after-held.new.seat)
     (view_of new.board) turn.entered.0 old.last.entries h
     home.core.authors (marks_of home) (ended.seat ∙ turn.seat) turn.entered.1 learns (ap (option_map named_stop) none) draft
     (g.K.Clock.may_answer c.args.clock.now)
@@ -285,8 +279,8 @@ pub returns-in-Ok-prepare-clause-fault : goal.returns-in-Ok-prepare-clause-fault
 returns-in-Ok-prepare-clause-fault g c =
     let old = c.args.seat.now in
     let new = c.append.new.seat in
-    let home = c.enter-held.result.home in
-    let turn = c.enter-held.ensures in
+    let home = c.enter_after-held.result.home in
+    let turn = c.enter_after-held.ensures in
     let ended = c.append.ensures in
     let draft = c.in-Ok.draft in
     let h = home.core.snapshot.entries in
@@ -301,7 +295,7 @@ returns-in-Ok-prepare-clause-fault g c =
     let next = ap basis own.entries ∙ next_basis h (entry_of draft) own.next in
     if_err c.append.result ended.stopped
     (λ fault is. subst (λ (f : TxFault). IsFault may_answer guard asked (state_of old) (state_of new) f) (sym is.1.1)
-    (log_fault_is (board_of old.board) (board_of new.board) (view_of old.board) (view_of c.enter-held.new.seat)
+    (log_fault_is (board_of old.board) (board_of new.board) (view_of old.board) (view_of c.enter_after-held.new.seat)
     (view_of new.board) turn.entered.0 old.last.entries h
     home.core.authors (marks_of home) (ended.seat ∙ turn.seat) turn.entered.1 learns
     (ap (option_map named_stop) none) draft may_answer guard asked reading may c.in-Ok.ensures.accepted
