@@ -14,6 +14,6 @@ returns-clause-supposed g c =
       done.entry,
       c.in_ok-with_entry.ensures.entries,
       c.an_accepted_entry_is_lawful.ensures c.args.before.now.entries (form_of c.args.asked.now) (g.G.Guard.bars c.args.guard.now) MIN
-      done.entry done.tempids.items c.schema.ensures.stands.history.lawful c.in_ok-accepted.ensures.accepted,
+          done.entry done.tempids.items c.schema.ensures.stands.history.lawful c.in_ok-accepted.ensures.accepted,
       (done.tempids.items, c.in_ok-accepted.ensures.accepted),
     )
