@@ -6,7 +6,7 @@ use Rattle.disk_model.specs.Journal.{segments_mark}
 use Rattle.log_model.specs.Nodes.{Nodes, Roots}
 use Rattle.log_model.specs.Kept.{KeptRoot, kept_roots, nodes_of, are_good}
 use Rattle.fb_journal.specs.Journals.{StaysKnown}
-use Rattle.fb_journal.specs.Readings.{disk_from, IsBegun, HasReadAll}
+use Rattle.fb_journal.specs.Readings.{disk_from, IsBegun, HasRead, HasReadAll}
 use Rattle.fb_journal.specs.declared.readings.Reading.{Reading}
 use Rattle.seg_codec.specs.declared.wanted.Wanted.{Wanted}
 use Rattle.seg_codec.specs.Trees.{AreTreesOf, AreIdsOf}
@@ -14,6 +14,8 @@ use Rattle.seg_codec.specs.Wanted.{are_wanted, held_nodes}
 use Rattle.seg_store.specs.declared.found.Found.{Found}
 use Rattle.seg_store.specs.declared.loads.KeptTrees.{KeptTrees}
 use Rattle.seg_store.specs.declared.newest.Rooted.{Rooted}
+use Rattle.seg_store.specs.declared.newest.First.{First}
+use Rattle.seg_store.specs.declared.newest.First.TheVariants.{Empty, Several, Other}
 use Rattle.seg_store.specs.Loads.{kept_of, AreRecordsOf, IsFaulty}
 
 -- if all their leaves are wanted, the trees are those of this root, and of the nodes
@@ -41,6 +43,20 @@ pub record HasFound (wanted : Wanted) (records : List (List ℕ)) (found : Found
 abbrev pub IsOpenedAs : Option (List ℕ) → Option (List ℕ) → Type 0
 IsOpenedAs known opened = IfKnown known
     (λ was. (now : List ℕ) × (opened ≡ Some now) × IsBegun segments_mark was now)
+
+-- the disk after a first reading
+abbrev pub disk_at : {D : Type 0} {g : _} → First D g → D
+disk_at (Empty file) = disk_from file
+disk_at (Several disk) = disk
+disk_at (Other disk) = disk
+
+-- a first reading of the file: where it goes on, it has read no record yet
+abbrev pub IsFirst : {D : Type 0} {g : _} → (D → Option (List ℕ)) → (D → List ℕ → Type 0)
+    → (D → ℕ) → (D → ℕ → List ℕ → Type 0) → D → First D g → Type 0
+IsFirst bytes images moment since disk (Empty file) =
+    HasRead bytes images moment since segments_mark disk [] file
+IsFirst bytes images moment since disk (Several back) = IsOpenedAs (bytes disk) (bytes back)
+IsFirst bytes images moment since disk (Other back) = IsOpenedAs (bytes disk) (bytes back)
 
 -- These are all records of the file that were read, up to its journal's first fault.
 -- Where one is bad, or the journal has a fault, it is known.

@@ -83,17 +83,37 @@ impl<D: Disk> SegStore<D> {
             (λ loaded. D.faults (disk_in loaded.store) ≡ D.faults disk)
             (λ stop. CountsLoad stop.fault (D.faults disk) (D.faults stop.disk)) }
     {
-        let mut file = match Journal::open(alloc, disk, Mark::Segments) {
-            Ok(file) => file,
-            Err(stop) => return loaded_before(alloc, stop),
-        };
-        match found_in(alloc, &mut file, Wanted::Every) {
-            Ok(found) => loaded_behind(alloc, found, file),
-            Err(fault) => Err(LoadStop {
-                fault,
-                disk: file.give_back(),
-            }),
+        match Journal::open(alloc, disk, Mark::Segments) {
+            Ok(file) => loaded_from(alloc, file),
+            Err(stop) => loaded_before(alloc, stop),
         }
+    }
+}
+
+/// What a file keeps that was opened, and of which no record was read.
+pub(crate) fn loaded_from<D: Disk>(
+    alloc: Global,
+    file: Reading<D>,
+) -> Result<Loaded<D>, LoadStop<D>>
+    requires { (disk : D)
+        × HasRead D.bytes D.images D.moment D.images_since segments_mark disk [] file }
+    ensures loaded { IfOk result (λ loaded. (disk : D)
+        → HasRead D.bytes D.images D.moment D.images_since segments_mark disk [] file
+        → IsLoaded D.bytes D.images (D.bytes disk) loaded) }
+    ensures known { IfOk result (λ loaded. (disk : D)
+        → HasRead D.bytes D.images D.moment D.images_since segments_mark disk [] file
+        → StaysKnown (D.bytes disk) (D.bytes (disk_in loaded.store))) }
+    ensures counted { MatchResult result
+        (λ loaded. D.faults (disk_in loaded.store) ≡ D.faults (disk_from file))
+        (λ stop. CountsLoad stop.fault (D.faults (disk_from file)) (D.faults stop.disk)) }
+{
+    let mut file = file;
+    match found_in(alloc, &mut file, Wanted::Every) {
+        Ok(found) => loaded_behind(alloc, found, file),
+        Err(fault) => Err(LoadStop {
+            fault,
+            disk: file.give_back(),
+        }),
     }
 }
 

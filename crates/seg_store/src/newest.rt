@@ -7,10 +7,10 @@ ghost use Rattle.fb_journal.specs.Starts.{CountsStart};
 ghost use Rattle.fb_journal.specs.declared.starts.StartFault.{StartFault};
 ghost use Rattle.seg_store.specs.Stores.{disk_in};
 ghost use Rattle.seg_store.specs.Loads.{IsNewestRoot, IsLoadedNewest, store_in, CountsLoad};
-ghost use Rattle.seg_store.specs.Finding.{IsOpenedAs, HasRooted};
+ghost use Rattle.seg_store.specs.Finding.{IsOpenedAs, HasRooted, IsFirst, disk_at};
 
 use crate::found::Found;
-use crate::loads::{KeptTrees, LoadFault, LoadStop, Loaded, found_in, loaded_before};
+use crate::loads::{KeptTrees, LoadFault, LoadStop, Loaded, found_in, loaded_before, loaded_from};
 use crate::stores::SegStore;
 use fb_disk::Disk;
 use fb_journal::{Journal, Mark, Reading, StartFault, StartStop};
@@ -40,9 +40,21 @@ pub(crate) struct Rooted {
     ids: Ids,
 }
 
+/// What a first reading tells of a file.
+#[derive(Drop)]
+pub(crate) enum First<D: Disk> {
+    /// It has no record, and the reading goes on.
+    Empty(Reading<D>),
+    /// It has two records or more.
+    Several(D),
+    /// It has one record, or a fault before a second one.
+    Other(D),
+}
+
 impl<D: Disk> SegStore<D> {
     /// Loads the newest root that a file keeps, if it has one and no fault, and else all of them. A file of several records is
-    /// read twice, first for the ids of that root's leaves. So the others take little memory, however many there are.
+    /// read twice, first for the ids of that root's leaves. So the others take little memory, however many there are. A file
+    /// without a record is opened once.
     pub fn load_newest(alloc: Global, disk: D) -> Result<Newest<D>, LoadStop<D>>
         ensures newest { IfOk result (IsLoadedNewest D.bytes D.images (D.bytes disk)) }
         ensures known { IfOk result
@@ -53,32 +65,83 @@ impl<D: Disk> SegStore<D> {
             (λ newest. D.faults (disk_in (store_in newest)) ≡ D.faults disk)
             (λ stop. CountsLoad stop.fault (D.faults disk) (D.faults stop.disk)) }
     {
-        let (several, begun) = has_several(alloc, disk)?;
-        if !several {
-            return newest_with(alloc, begun, Wanted::Every);
+        match first_of(alloc, disk)? {
+            First::Empty(file) => whole_from(alloc, file),
+            First::Several(begun) => newest_of_several(alloc, begun),
+            First::Other(begun) => newest_with(alloc, begun, Wanted::Every),
         }
-        let (wanted, read) = wanted_in(alloc, begun)?;
-        newest_with(alloc, read, wanted)
     }
 }
 
-// ---- what a first reading tells: no claim needs it
+// ---- what a first reading tells: but for a file without a record, no claim needs it
 
-/// Whether a file has two records or more.
-fn has_several<D: Disk>(alloc: Global, disk: D) -> Result<(bool, D), LoadStop<D>>
-    ensures opened { IfOk result (λ r. IsOpenedAs (D.bytes disk) (D.bytes r.1)) }
-    ensures counted { MatchResult result (λ r. D.faults r.1 ≡ D.faults disk)
+/// Opens a file for the first time.
+fn first_of<D: Disk>(alloc: Global, disk: D) -> Result<First<D>, LoadStop<D>>
+    ensures first { IfOk result
+        (IsFirst D.bytes D.images D.moment D.images_since disk) }
+    ensures counted { MatchResult result (λ first. D.faults (disk_at first) ≡ D.faults disk)
         (λ stop. CountsLoad stop.fault (D.faults disk) (D.faults stop.disk)) }
 {
-    let mut file = match Journal::open(alloc, disk, Mark::Segments) {
-        Ok(file) => file,
+    match Journal::open(alloc, disk, Mark::Segments) {
+        Ok(file) => first_in(alloc, file),
         Err(stop) => {
             let other = not_opened(stop)?;
-            return Ok((false, other));
+            Ok(First::Other(other))
         }
-    };
+    }
+}
+
+/// What is told of a file that was opened.
+fn first_in<D: Disk>(alloc: Global, file: Reading<D>) -> Result<First<D>, LoadStop<D>>
+    ensures first { IfOk result (λ first. (disk : D)
+        → HasRead D.bytes D.images D.moment D.images_since segments_mark disk [] file
+        → IsFirst D.bytes D.images D.moment D.images_since disk first) }
+    ensures counted { MatchResult result
+        (λ first. D.faults (disk_at first) ≡ D.faults (disk_from file))
+        (λ stop. CountsLoad stop.fault (D.faults (disk_from file)) (D.faults stop.disk)) }
+{
+    let mut file = file;
+    match has_none(alloc, &mut file) {
+        Ok(true) => Ok(First::Empty(file)),
+        Ok(false) => first_beyond(alloc, file),
+        Err(fault) => Err(LoadStop {
+            fault,
+            disk: file.give_back(),
+        }),
+    }
+}
+
+/// Whether a file has no record with a byte, and no fault.
+fn has_none<D: Disk>(alloc: Global, file: &mut Reading<D>) -> Result<bool, LoadFault>
+    ensures stays { (disk : D) (records : List (List ℕ))
+        → HasRead D.bytes D.images D.moment D.images_since segments_mark disk records file.old
+        → HasRead D.bytes D.images D.moment D.images_since segments_mark disk records file.new }
+    ensures counted { MatchResult result
+        (λ _. D.faults (disk_from file.new) ≡ D.faults (disk_from file.old))
+        (λ fault. CountsLoad fault (D.faults (disk_from file.old)) (D.faults (disk_from file.new))) }
+{
+    let mut front = Vec::new(alloc);
+    match file.front(0, &mut front) {
+        Ok(next) => Ok(next.is_none()),
+        Err(StartFault::BadLog { .. }) => Ok(false),
+        Err(StartFault::Disk) => Err(LoadFault::Disk),
+        Err(StartFault::Memory) => Err(LoadFault::Memory),
+    }
+}
+
+/// What is told of a file that has a record or a fault.
+fn first_beyond<D: Disk>(alloc: Global, file: Reading<D>) -> Result<First<D>, LoadStop<D>>
+    ensures first { IfOk result (λ first. (disk : D)
+        → HasRead D.bytes D.images D.moment D.images_since segments_mark disk [] file
+        → IsFirst D.bytes D.images D.moment D.images_since disk first) }
+    ensures counted { MatchResult result
+        (λ first. D.faults (disk_at first) ≡ D.faults (disk_from file))
+        (λ stop. CountsLoad stop.fault (D.faults (disk_from file)) (D.faults stop.disk)) }
+{
+    let mut file = file;
     match goes_over_two(alloc, &mut file) {
-        Ok(several) => Ok((several, file.give_back())),
+        Ok(true) => Ok(First::Several(file.give_back())),
+        Ok(false) => Ok(First::Other(file.give_back())),
         Err(fault) => Err(LoadStop {
             fault,
             disk: file.give_back(),
@@ -142,6 +205,19 @@ fn goes_over<D: Disk>(file: &mut Reading<D>, front: &mut Vec<u8>) -> Result<bool
     Ok(true)
 }
 
+/// What is loaded of a file of several records.
+fn newest_of_several<D: Disk>(alloc: Global, disk: D) -> Result<Newest<D>, LoadStop<D>>
+    ensures newest { IfOk result (IsLoadedNewest D.bytes D.images (D.bytes disk)) }
+    ensures known { IfOk result
+        (λ newest. StaysKnown (D.bytes disk) (D.bytes (disk_in (store_in newest)))) }
+    ensures counted { MatchResult result
+        (λ newest. D.faults (disk_in (store_in newest)) ≡ D.faults disk)
+        (λ stop. CountsLoad stop.fault (D.faults disk) (D.faults stop.disk)) }
+{
+    let (wanted, read) = wanted_in(alloc, disk)?;
+    newest_with(alloc, read, wanted)
+}
+
 /// The leaves of the newest root of a file.
 fn wanted_in<D: Disk>(alloc: Global, disk: D) -> Result<(Wanted, D), LoadStop<D>>
     ensures opened { IfOk result (λ r. IsOpenedAs (D.bytes disk) (D.bytes r.1)) }
@@ -183,7 +259,25 @@ fn newest_leaves<D: Disk>(alloc: Global, file: &mut Reading<D>) -> Result<Ids, L
     }
 }
 
-// ---- the second one
+// ---- the reading that counts
+
+/// All that a file keeps that was opened, and of which no record was read.
+fn whole_from<D: Disk>(alloc: Global, file: Reading<D>) -> Result<Newest<D>, LoadStop<D>>
+    requires { (disk : D)
+        × HasRead D.bytes D.images D.moment D.images_since segments_mark disk [] file }
+    ensures newest { IfOk result (λ newest. (disk : D)
+        → HasRead D.bytes D.images D.moment D.images_since segments_mark disk [] file
+        → IsLoadedNewest D.bytes D.images (D.bytes disk) newest) }
+    ensures known { IfOk result (λ newest. (disk : D)
+        → HasRead D.bytes D.images D.moment D.images_since segments_mark disk [] file
+        → StaysKnown (D.bytes disk) (D.bytes (disk_in (store_in newest)))) }
+    ensures counted { MatchResult result
+        (λ newest. D.faults (disk_in (store_in newest)) ≡ D.faults (disk_from file))
+        (λ stop. CountsLoad stop.fault (D.faults (disk_from file)) (D.faults stop.disk)) }
+{
+    let loaded = loaded_from(alloc, file)?;
+    Ok(Newest::Whole(loaded))
+}
 
 /// What is loaded of a file with those leaves whole that are wanted.
 fn newest_with<D: Disk>(alloc: Global, disk: D, wanted: Wanted) -> Result<Newest<D>, LoadStop<D>>

@@ -1,5 +1,5 @@
 //! Room in a file most of whose nodes are dead: they are nodes of none of the trees that are kept on with.
-ghost use Rattle.std.specs.Prelude.{◌≡◌, ◌⊎◌, ◌*◌, ◌-◌, ◌++◌, [], ◌∷◌, ℕ, List, length, nat_eq, nat_lt, None, Some, OnOk, IsErrOf};
+ghost use Rattle.std.specs.Prelude.{◌≡◌, ◌⊎◌, ◌*◌, ◌-◌, [], ◌∷◌, ℕ, List, length, nat_eq, nat_lt, None, Some, OnOk, IsErrOf};
 ghost use Rattle.std.specs.List.{IsDistinct};
 ghost use Rattle.io_faults.specs.Faults.{Rose};
 ghost use Rattle.fb_journal.specs.Journals.{Keeps, StaysKnown};

@@ -1,5 +1,4 @@
 //! A store on a disk as a store of the worker's trees.
-ghost use Rattle.std.specs.Prelude.{◌≡◌};
 
 use crate::laws::{trees_made_of_fitting_ones_fit, trees_of_a_lawful_history_are_storable};
 use crate::stores::{KeepFault, SegStore};

@@ -1,4 +1,4 @@
-use Rattle.std.proofs.Common.{◌≡◌, ℕ, List, [], inr, refl, sym, ◌∙◌, subst}
+use Rattle.std.proofs.Common.{[], inr, refl, ◌∙◌, subst}
 use Rattle.fb_journal.specs.Readings.{IsFirstFault}
 use Rattle.fb_journal.specs.declared.starts.StartFault.{StartFault}
 use Rattle.disk_model.specs.Disk.{IfKnown}

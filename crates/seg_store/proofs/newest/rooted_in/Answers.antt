@@ -1,10 +1,8 @@
-use Rattle.std.proofs.Common.{ap, sym, subst, ◌∙◌, ◌≡◌, true, List, ◌++◌, ◌∷◌, []}
+use Rattle.std.proofs.Common.{ap, sym, subst, ◌∙◌, ◌≡◌, true, ◌++◌, ◌∷◌, []}
 use Rattle.log_model.specs.Nodes.{ids_in, is_among}
 use Rattle.log_model.specs.Kept.{KeptRoot, kept_roots, nodes_of}
 use Rattle.seg_codec.specs.declared.wanted.Wanted.{Wanted}
 use Rattle.seg_codec.specs.Wanted.{are_wanted}
-use Rattle.seg_store.specs.declared.loads.KeptTrees.{KeptTrees}
-use Rattle.seg_store.specs.Loads.{kept_of}
 use Rattle.seg_store.specs.Finding.{AreHeld}
 use Rattle.seg_store.proofs.Holding.{held_ids_in, newest_held}
 use Rattle.seg_store.proofs.newest.rooted_in.Goals as goal

@@ -4,42 +4,49 @@ use Rattle.seg_store.specs.Loads.{store_in}
 use Rattle.seg_store.proofs.Opening.{known_opened, newest_opened}
 use Rattle.seg_store.proofs.stores.SegStore.load_newest.Goals as goal
 
-pub returns-then-not-several-clause-newest : goal.returns-then-not-several-clause-newest
-returns-then-not-several-clause-newest g c =
+pub whole_from-requires : goal.whole_from-requires
+whole_from-requires g c = (c.args.disk, (rw c.in-Empty.is at c.in_ok-file.ensures.first))
+
+pub returns-in-Empty-clause-newest : goal.returns-in-Empty-clause-newest
+returns-in-Empty-clause-newest g c =
+    IfOk-weaker c.whole_from.result _ _ (λ newest is. is c.args.disk (rw c.in-Empty.is at c.in_ok-file.ensures.first)) c.whole_from.ensures.newest
+
+pub returns-in-Empty-clause-known : goal.returns-in-Empty-clause-known
+returns-in-Empty-clause-known g c =
+    IfOk-weaker c.whole_from.result _ _ (λ newest is. is c.args.disk (rw c.in-Empty.is at c.in_ok-file.ensures.first)) c.whole_from.ensures.known
+
+pub returns-in-Several-clause-newest : goal.returns-in-Several-clause-newest
+returns-in-Several-clause-newest g c =
     let d = g.D.Disk in
     let told = d.bytes c.args.disk in
-    let begun = d.bytes c.in_ok-several.begun in
+    let begun = d.bytes c.in-Several.begun in
+    IfOk-weaker c.newest_of_several.result _ _
+    (λ newest is. newest_opened d.bytes d.images told begun (rw c.in-Several.is at c.in_ok-file.ensures.first) newest is)
+    c.newest_of_several.ensures.newest
+
+pub returns-in-Several-clause-known : goal.returns-in-Several-clause-known
+returns-in-Several-clause-known g c =
+    let d = g.D.Disk in
+    let told = d.bytes c.args.disk in
+    let begun = d.bytes c.in-Several.begun in
+    IfOk-weaker c.newest_of_several.result _ _
+    (λ newest later. known_opened told begun (d.bytes (disk_in (store_in newest))) (rw c.in-Several.is at c.in_ok-file.ensures.first) later)
+    c.newest_of_several.ensures.known
+
+pub returns-in-Other-clause-newest : goal.returns-in-Other-clause-newest
+returns-in-Other-clause-newest g c =
+    let d = g.D.Disk in
+    let told = d.bytes c.args.disk in
+    let begun = d.bytes c.in-Other.begun in
     IfOk-weaker c.newest_with.result _ _
-    (λ newest is. newest_opened d.bytes d.images told begun c.in_ok-several.ensures.opened newest is)
+    (λ newest is. newest_opened d.bytes d.images told begun (rw c.in-Other.is at c.in_ok-file.ensures.first) newest is)
     c.newest_with.ensures.newest
 
-pub returns-then-not-several-clause-known : goal.returns-then-not-several-clause-known
-returns-then-not-several-clause-known g c =
+pub returns-in-Other-clause-known : goal.returns-in-Other-clause-known
+returns-in-Other-clause-known g c =
     let d = g.D.Disk in
     let told = d.bytes c.args.disk in
-    let begun = d.bytes c.in_ok-several.begun in
+    let begun = d.bytes c.in-Other.begun in
     IfOk-weaker c.newest_with.result _ _
-    (λ newest later. known_opened told begun (d.bytes (disk_in (store_in newest))) c.in_ok-several.ensures.opened later)
+    (λ newest later. known_opened told begun (d.bytes (disk_in (store_in newest))) (rw c.in-Other.is at c.in_ok-file.ensures.first) later)
     c.newest_with.ensures.known
-
-pub returns-clause-newest : goal.returns-clause-newest
-returns-clause-newest g c =
-    let d = g.D.Disk in
-    let told = d.bytes c.args.disk in
-    let begun = d.bytes c.in_ok-several.begun in
-    let read = d.bytes c.in_ok-wanted.read in
-    IfOk-weaker c.newest_with-2.result _ _
-    (λ newest is. newest_opened d.bytes d.images told begun c.in_ok-several.ensures.opened newest
-    (newest_opened d.bytes d.images begun read c.in_ok-wanted.ensures.opened newest is))
-    c.newest_with-2.ensures.newest
-
-pub returns-clause-known : goal.returns-clause-known
-returns-clause-known g c =
-    let d = g.D.Disk in
-    let told = d.bytes c.args.disk in
-    let begun = d.bytes c.in_ok-several.begun in
-    let read = d.bytes c.in_ok-wanted.read in
-    IfOk-weaker c.newest_with-2.result _ _
-    (λ newest later. known_opened told begun (d.bytes (disk_in (store_in newest))) c.in_ok-several.ensures.opened
-    (known_opened begun read (d.bytes (disk_in (store_in newest))) c.in_ok-wanted.ensures.opened later))
-    c.newest_with-2.ensures.known
