@@ -181,3 +181,101 @@ fn a_log_is_read_through_a_window(rt: HostRuntime) -> Result<(), Fail> {
     std::fs::remove_dir(&rt, "window")?;
     Ok(())
 }
+
+/// The length of a payload that makes a log long enough for zeros to be laid in it.
+const LONG: usize = 1 << 20;
+
+/// The calls of the disk until a journal with such a record is opened again: four that begin it, four that add the record, and five
+/// that read it.
+const OPENED: u64 = 13;
+
+/// A journal that is opened again after a long record was added, on a disk of which this call fails. There is none where that call
+/// comes before.
+fn opened_long(alloc: Global, mark: Mark, fails: u64) -> Result<Option<Journal<MemDisk>>, Memory> {
+    let first = frame_in(vec![in alloc; 7; LONG + 8]?)?;
+    let disk = MemDisk::new(alloc, 2 * LONG + 4_096, vec![in alloc; fails; 1]?)?;
+    let Ok(mut journal) = Journal::anew(disk, mark) else {
+        return Ok(None);
+    };
+    if journal.append(&first).is_err() {
+        return Ok(None);
+    }
+    Ok(reopened(alloc, journal.give_back(), mark))
+}
+
+/// The journal of a disk that has one record.
+fn reopened(alloc: Global, disk: MemDisk, mark: Mark) -> Option<Journal<MemDisk>> {
+    let Ok(mut reading) = Journal::open(alloc, disk, mark) else {
+        return None;
+    };
+    let mut payload = Vec::new(alloc);
+    let Ok(Some(_)) = reading.next(&mut payload) else {
+        return None;
+    };
+    let Ok(None) = reading.next(&mut payload) else {
+        return None;
+    };
+    Some(reading.finish())
+}
+
+/// How long the file is after so many records are added behind the long one, and whether zeros end it.
+fn file_after(alloc: Global, mark: Mark, records: u32) -> Result<Option<(usize, bool)>, Memory> {
+    let framed = frame(alloc, b"hi")?;
+    let Some(mut journal) = opened_long(alloc, mark, 0)? else {
+        return Ok(None);
+    };
+    for _ in 0..records {
+        if journal.append(&framed).is_err() {
+            return Ok(None);
+        }
+    }
+    let disk = journal.give_back();
+    let file = disk.bytes();
+    Ok(Some((file.len(), file.ends_with(&[0; 1_000]))))
+}
+
+#[test]
+fn zeros_are_laid_ahead_in_a_long_log_alone(rt: HostRuntime) -> Result<(), Fail> {
+    let log = file_after(rt.alloc(), Mark::Log, 3)?;
+    assert_eq!(rt; log, Some((2 * LONG, true)));
+    let segments = file_after(rt.alloc(), Mark::Segments, 1)?;
+    assert_eq!(rt; segments, Some((LONG + 36, false)));
+    Ok(())
+}
+
+/// A call that fails, counted from the first that adds a record behind the long one, to how many bytes a crash cuts each write
+/// since the last sync then, and how many records it leaves. The calls are a write and a sync, sixteen writes of zeros and a sync, and
+/// the gate and a sync.
+const LEFT: &[(u64, u64, u32)] = &[
+    (1, 0, 1),
+    (2, 5, 1),
+    (3, 0, 1),
+    (10, 7, 1),
+    (19, 0, 1),
+    (20, 0, 1),
+    (21, 0, 1),
+    (21, 1, 2),
+];
+
+/// Whether a record is added behind the long one where the call of this number fails, and how many records a crash leaves then that
+/// cuts each write since the last sync to so many bytes.
+fn left_after(alloc: Global, fails: u64, cut: u64) -> Result<Option<(bool, Option<u32>)>, Memory> {
+    let framed = frame(alloc, b"hi")?;
+    let Some(mut journal) = opened_long(alloc, Mark::Log, fails)? else {
+        return Ok(None);
+    };
+    let is_added = journal.append(&framed).is_ok();
+    let image = journal.give_back().image(alloc, &[cut, cut])?;
+    Ok(Some((is_added, count_in(alloc, image))))
+}
+
+#[test]
+fn a_crash_amid_zeros_leaves_the_records(rt: HostRuntime) -> Result<(), Fail> {
+    for (call, cut, count) in LEFT {
+        let left = left_after(rt.alloc(), OPENED + call, *cut)?;
+        assert_eq!(rt; left, Some((false, Some(*count))));
+    }
+    let all = left_after(rt.alloc(), OPENED + 22, 0)?;
+    assert_eq!(rt; all, Some((true, Some(2))));
+    Ok(())
+}
