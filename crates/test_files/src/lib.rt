@@ -5,6 +5,8 @@
 #[cfg(test)]
 mod fb_journal_tests;
 #[cfg(test)]
+mod laid_tests;
+#[cfg(test)]
 mod mem_ports_tests;
 #[cfg(test)]
 mod real_ports_tests;

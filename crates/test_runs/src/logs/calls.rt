@@ -1,7 +1,8 @@
 //! Each call of the log's disk fails in turn. The run has to say so. A crash then has to leave what the sessions were answered, at most
 //! with the transaction that met the fault, and the script goes on from there.
 use crate::directories::disk;
-use crate::logs::left::{Case, Left, Stop, left_by};
+use crate::logs::gates::is_open;
+use crate::logs::left::{Case, Left, left_by};
 use crate::runs::{Ended, is_answered, run_over};
 use anyhow::{Result, bail};
 use mem_ports::MemDisk;
@@ -14,8 +15,13 @@ const MOST_CALLS: u64 = 1_000;
 
 const MOST_CUTS: u64 = 10_000;
 
-/// Adding a record takes so many calls of the disk. The third writes its gate.
+/// Adding a record takes so many calls of the disk, where no other session waits for its turn. One that waits may have the next
+/// record laid, which is one call more for the one before it, and two fewer for the next one if it is the one that was laid.
 const CALLS_A_RECORD: u32 = 4;
+
+/// Where two writes came since the last sync, what a crash may leave of the first one, beside what it leaves of the other: nothing,
+/// and all of it.
+const FIRST_WRITES: &[&[u64]] = &[&[0], &[u64::MAX]];
 
 /// How many calls failed while the log was opened and while records were added, and how many images the latter left: one in front of each
 /// write of a record, after its first one for each byte up to the last that is not 0 and one more, and two after that of its gate.
@@ -67,7 +73,7 @@ fn judge<R: Threads + Wait + Sync>(
 ) -> Result<bool> {
     let log = &ended.parts()?.log;
     let left = left_over(alloc, case, ended, tally)?;
-    let images = reopened(rt, alloc, log, &left)?;
+    let images = reopened(rt, alloc, log, &left, ended.basis())?;
     if ended.status == 7 {
         tally.images = tally.images.saturating_add(images);
     }
@@ -101,21 +107,26 @@ fn left_at_opening(
 fn left_at_stop(alloc: Global, case: Case<'_>, ended: &Ended, tally: &mut Tally) -> Result<Left> {
     let records = tally.adding / CALLS_A_RECORD;
     tally.adding = tally.adding.saturating_add(1);
-    let t = ended.recovered.saturating_add(records).saturating_add(1);
+    let added = ended.basis().saturating_sub(ended.recovered);
+    if is_alone(case) && added != records {
+        bail!("{added} records are added before call {}", tally.adding);
+    }
+    let t = ended.basis().saturating_add(1);
     let line = format!(in alloc; "factbase: log stopped at t {t}")?;
     tells(ended, line.as_str())?;
-    let stop = Stop {
-        t,
-        is_gate_written: tally.adding % CALLS_A_RECORD == 0,
-    };
-    left_by(alloc, case, ended, Some(stop))
+    left_by(alloc, case, ended, Some(t))
+}
+
+/// Nobody waits for a turn beside it.
+fn is_alone(case: Case<'_>) -> bool {
+    case.scripts.len() == 1
 }
 
 /// All calls of all records have failed before.
 fn left_at_end(alloc: Global, case: Case<'_>, ended: &Ended, tally: Tally) -> Result<Left> {
     tells(ended, "")?;
     let records = ended.basis().saturating_sub(ended.recovered);
-    if tally.adding != records.saturating_mul(CALLS_A_RECORD) {
+    if is_alone(case) && tally.adding != records.saturating_mul(CALLS_A_RECORD) {
         bail!("{} calls failed of {records} records", tally.adding);
     }
     left_by(alloc, case, ended, None)
@@ -128,35 +139,61 @@ fn tells(ended: &Ended, line: &str) -> Result<()> {
     Ok(())
 }
 
-/// Opens each image that a crash may leave, with the last write cut in front of each of its bytes, and whole. It says how many there
-/// are.
+/// Opens each image that a crash may leave, with the first write since the last sync cut in front of each of its bytes, and whole. It
+/// says how many there are. Where there is another write, that one is cut so too.
 fn reopened<R: Threads + Wait + Sync>(
     rt: &R,
     alloc: Global,
     log: &MemDisk,
     left: &Left,
+    records: u32,
 ) -> Result<u64> {
+    for first in FIRST_WRITES {
+        reopened_behind(rt, alloc, log, left, records, first)?;
+    }
+    reopened_behind(rt, alloc, log, left, records, &[])
+}
+
+/// The same of the write behind those that are cut so.
+fn reopened_behind<R: Threads + Wait + Sync>(
+    rt: &R,
+    alloc: Global,
+    log: &MemDisk,
+    left: &Left,
+    records: u32,
+    first: &[u64],
+) -> Result<u64> {
+    let whole = cut_at(alloc, log, first, u64::MAX)?;
     for cut in 0..MOST_CUTS {
-        if reopened_at(rt, alloc, log, left, cut)? {
+        let image = cut_at(alloc, log, first, cut)?;
+        let is_whole = image.bytes() == whole.bytes();
+        reopened_at(rt, alloc, image, left, records)?;
+        if is_whole {
             return Ok(cut.saturating_add(1));
         }
     }
     bail!("a write does not end")
 }
 
-/// Opens the image with the last write cut in front of this byte. It says whether the write is whole.
+/// The image that a crash leaves, with the next write behind the first ones cut in front of this byte.
+fn cut_at(alloc: Global, log: &MemDisk, first: &[u64], cut: u64) -> Result<MemDisk> {
+    let mut cuts = Vec::new(alloc);
+    cuts.extend_from_slice(first)?;
+    cuts.push(cut)?;
+    Ok(log.image(alloc, cuts.as_slice())?)
+}
+
+/// The image has so many records, and one more where the gate behind them is open.
 fn reopened_at<R: Threads + Wait + Sync>(
     rt: &R,
     alloc: Global,
-    log: &MemDisk,
+    image: MemDisk,
     left: &Left,
-    cut: u64,
-) -> Result<bool> {
-    let sequel = left.at(cut);
-    let image = log.image(alloc, &[cut])?;
-    let is_whole = image.bytes() == log.bytes();
+    records: u32,
+) -> Result<()> {
+    let sequel = left.where_open(is_open(image.bytes(), records));
     if !is_answered(rt, alloc, image, sequel.script.as_str(), &sequel.lines)? {
-        bail!("a crash leaves something else, with the last write cut at byte {cut}");
+        bail!("a crash leaves something else than {records} records, or one more");
     }
-    Ok(is_whole)
+    Ok(())
 }

@@ -17,13 +17,6 @@ pub(crate) struct Case<'a> {
     pub(crate) scripts: &'a [&'a str],
 }
 
-/// Where the log stopped: at this t, and whether the gate of that entry was being written.
-#[derive(Clone, Copy)]
-pub(crate) struct Stop {
-    pub(crate) t: u32,
-    pub(crate) is_gate_written: bool,
-}
-
 /// What is asked of a log after a crash, the whole history and then more, and what has to be answered.
 #[derive(Drop)]
 pub(crate) struct Sequel {
@@ -45,7 +38,7 @@ impl Sequel {
     }
 }
 
-/// What goes on from a history, and where the gate of one more entry was being written, from the history with that.
+/// What goes on from a history, and where a transaction met the stop of the log, from the history with its entry.
 #[derive(Drop)]
 pub(crate) struct Left {
     before: Sequel,
@@ -69,10 +62,10 @@ impl Left {
         })
     }
 
-    /// Where the gate's byte is there, so is the entry.
-    pub(crate) fn at(&self, cut: u64) -> &Sequel {
+    /// Where the gate of the torn entry is open, the entry is there.
+    pub(crate) fn where_open(&self, is_open: bool) -> &Sequel {
         match &self.with_torn {
-            Some(with_torn) if cut > 0 => with_torn,
+            Some(with_torn) if is_open => with_torn,
             _ => &self.before,
         }
     }
@@ -83,10 +76,9 @@ pub(crate) fn left_by(
     alloc: Global,
     case: Case<'_>,
     ended: &Ended,
-    stop: Option<Stop>,
+    stop: Option<u32>,
 ) -> Result<Left> {
-    let t = stop.map(|stop| stop.t);
-    let mut replay = Replay::new(alloc, case.plain.copy()?, t)?;
+    let mut replay = Replay::new(alloc, case.plain.copy()?, stop)?;
     left_behind(alloc, &mut replay, case.scripts, ended, stop)
 }
 
@@ -95,12 +87,12 @@ fn left_behind<'a>(
     replay: &mut Replay<'a>,
     scripts: &[&'a str],
     ended: &'a Ended,
-    stop: Option<Stop>,
+    stop: Option<u32>,
 ) -> Result<Left> {
     replay_all(alloc, replay, scripts, ended)?;
     match (stop, replay.torn) {
         (None, _) => Left::alone(alloc, &replay.plain, ""),
-        (Some(stop), Some(torn)) => left_torn(alloc, &mut replay.plain, stop, torn),
+        (Some(_), Some(torn)) => Left::with(alloc, &mut replay.plain, torn),
         (Some(_), None) => bail!("no transaction met the stop"),
     }
 }
@@ -113,13 +105,4 @@ fn replay_all<'a>(
 ) -> Result<()> {
     let served = served_by(alloc, scripts, ended)?;
     replay.replay(served.as_slice(), ended.recovered..ended.basis())
-}
-
-/// The transaction that met the stop counts where its gate is written.
-fn left_torn(alloc: Global, plain: &mut PlainSession, stop: Stop, torn: Torn<'_>) -> Result<Left> {
-    if stop.is_gate_written {
-        Left::with(alloc, plain, torn)
-    } else {
-        Left::alone(alloc, plain, torn.script)
-    }
 }
