@@ -94,13 +94,13 @@ fn add_until(alloc: Global, steps: Vec<Step>, fails: u64) -> Result<Option<Added
     let Ok(mut journal) = Journal::anew(disk, Mark::Log) else {
         return Ok(None);
     };
-    let mut count = 0;
+    let mut count: usize = 0;
     for step in steps {
         let Step { record, next } = step;
         if journal.append_beside(&record, next).is_err() {
             break;
         }
-        count += 1;
+        count = count.saturating_add(1);
     }
     let disk = journal.give_back();
     Ok(Some(Added { count, disk }))
@@ -136,7 +136,7 @@ fn keeps_added(alloc: Global, added: &Added) -> Result<bool, Memory> {
             let image = added.disk.image(alloc, &[first, second])?;
             match count_in(alloc, image) {
                 Some(count) if count == added.count => {}
-                Some(count) if count == added.count + 1 => {}
+                Some(count) if count == added.count.saturating_add(1) => {}
                 _ => return Ok(false),
             }
         }

@@ -36,7 +36,7 @@ pub(crate) fn run_over_logs<R: Files + Alloc + Print + Threads + Wait + Sync>(
 ) -> Result<()> {
     run_examples(rt, alloc)?;
     one_session(rt, alloc)?;
-    two_sessions(rt, alloc)?;
+    several_sessions(rt, alloc)?;
     damage_logs(rt, alloc)?;
     open_beside_segments(rt, alloc)?;
     cross_images(rt, alloc)
@@ -75,24 +75,26 @@ fn fail_one<R: Print + Threads + Wait + Sync>(
     Ok(())
 }
 
-fn two_sessions<R: Files + Alloc + Print + Threads + Wait + Sync>(
+fn several_sessions<R: Files + Alloc + Print + Threads + Wait + Sync>(
     rt: &R,
     alloc: Global,
 ) -> Result<()> {
     let ann = fs::read_to_string(rt, "ann.edn")?;
     let bob = fs::read_to_string(rt, "bob.edn")?;
-    fail_two(rt, alloc, ann.as_str(), bob.as_str())
+    fail_several(rt, alloc, ann.as_str(), bob.as_str())
 }
 
-/// Which entries two leave, how many calls they take, and so how many images there are, is up to the threads.
-fn fail_two<R: Print + Threads + Wait + Sync>(
+/// Which entries two leave, and so how many images, is up to the threads. Of three, so is how many calls they take.
+fn fail_several<R: Print + Threads + Wait + Sync>(
     rt: &R,
     alloc: Global,
     ann: &str,
     bob: &str,
 ) -> Result<()> {
-    fail_at_first(rt, alloc, &[ann, bob])?;
-    println!(rt; "two sessions: each call")?;
+    let two = fail_at_first(rt, alloc, &[ann, bob])?;
+    println!(rt; "two sessions: {} calls", two.adding)?;
+    fail_at_first(rt, alloc, &[ann, bob, ann])?;
+    println!(rt; "three sessions: each call")?;
     Ok(())
 }
 

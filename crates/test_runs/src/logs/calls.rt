@@ -15,9 +15,12 @@ const MOST_CALLS: u64 = 1_000;
 
 const MOST_CUTS: u64 = 10_000;
 
-/// Adding a record takes so many calls of the disk, where no other session waits for its turn. One that waits may have the next
-/// record laid, which is one call more for the one before it, and two fewer for the next one if it is the one that was laid.
+/// Adding a record takes so many calls of the disk, where no next record is laid beside it. Laying that one takes a call more, and two
+/// fewer then to add it, if it is the one that was laid.
 const CALLS_A_RECORD: u32 = 4;
+
+/// From so many sessions on, those in line may have their records laid.
+const LAYING: usize = 3;
 
 /// Where two writes came since the last sync, what a crash may leave of the first one, beside what it leaves of the other: nothing,
 /// and all of it.
@@ -108,7 +111,7 @@ fn left_at_stop(alloc: Global, case: Case<'_>, ended: &Ended, tally: &mut Tally)
     let records = tally.adding / CALLS_A_RECORD;
     tally.adding = tally.adding.saturating_add(1);
     let added = ended.basis().saturating_sub(ended.recovered);
-    if is_alone(case) && added != records {
+    if !may_lay(case) && added != records {
         bail!("{added} records are added before call {}", tally.adding);
     }
     let t = ended.basis().saturating_add(1);
@@ -117,16 +120,16 @@ fn left_at_stop(alloc: Global, case: Case<'_>, ended: &Ended, tally: &mut Tally)
     left_by(alloc, case, ended, Some(t))
 }
 
-/// Nobody waits for a turn beside it.
-fn is_alone(case: Case<'_>) -> bool {
-    case.scripts.len() == 1
+/// Whether records may be laid, which is up to the threads.
+fn may_lay(case: Case<'_>) -> bool {
+    case.scripts.len() >= LAYING
 }
 
 /// All calls of all records have failed before.
 fn left_at_end(alloc: Global, case: Case<'_>, ended: &Ended, tally: Tally) -> Result<Left> {
     tells(ended, "")?;
     let records = ended.basis().saturating_sub(ended.recovered);
-    if is_alone(case) && tally.adding != records.saturating_mul(CALLS_A_RECORD) {
+    if !may_lay(case) && tally.adding != records.saturating_mul(CALLS_A_RECORD) {
         bail!("{} calls failed of {records} records", tally.adding);
     }
     left_by(alloc, case, ended, None)
