@@ -40,6 +40,7 @@ use Rattle.fb_core.specs.contracts.accepting.Draft as Draft
 use Rattle.board_rule.proofs.seat.BoardSeat.TheSendSync as board_seat
 use Rattle.board_rule.proofs.board.Board.TheSendSync as board
 use Rattle.fb_conn.proofs.bell.Doorbell.TheSendSync as bell
+use Rattle.fb_conn.proofs.tray.Tray.TheSendSync as tray
 use Rattle.fb_log.specs.declared.logs.Log.{Ghosts}
 use Rattle.fb_conn.specs.contracts.seats.Seat as Seat
 use Rattle.fb_conn.specs.contracts.letters.Letter as Letter
@@ -197,18 +198,22 @@ Home-row : (L R : RattleType) (g : Ghosts L.Denot R.Denot) → IsSend L → IsSe
 Home-row L R g log =
     view_send _ _ _ _ _ (declared_send (Home.TheInside.the_type L R g) (heap.Box-send (Kept.the_row L) (Kept-row L log), tt))
 
--- the connection is shared, whatever its log, if that may be sent
-pub Conn-sync : (L R : RattleType) (g : Ghosts L.Denot R.Denot) → IsSend L → IsSync (Conn.the_row L R g)
-Conn-sync L R g log =
+-- the connection is shared, whatever its log, if that and its records may be sent
+pub Conn-sync : (L R : RattleType) (g : Ghosts L.Denot R.Denot) → IsSend L → IsSend R → IsSync (Conn.the_row L R g)
+Conn-sync L R g log made =
     let shared = board.the_sync (Home.the_row L R g) Letter.the_row Entry.the_row L unit (homes L R g no_dict no_dict no_dict) mailed
     letters (Home-row L R g log) Letter-row in
-    declared_sync (Conn.the_type L R g) (handle.the_sync, (shared, (bell.the_sync, (search sendable, tt))))
+    let supposed = tray.the_sync R made in
+    declared_sync (Conn.the_type L R g) (
+      handle.the_sync,
+      (shared, (bell.the_sync, (search (sendable, supposed) depth 30, (search sendable, tt)))),
+    )
 
 Seat-row : IsSend Seat.the_row
 Seat-row = declared_send Seat.the_type (board_seat.the_send, (Snapshot-send, tt))
 
-Desk-send : (ℓ : NamedLft) (L R : RattleType) (g : Ghosts L.Denot R.Denot) → IsSend L → IsSend (ConnDesk.the_row ℓ L R g)
-Desk-send ℓ L R g log = let conn = Conn-sync L R g log in
+Desk-send : (ℓ : NamedLft) (L R : RattleType) (g : Ghosts L.Denot R.Denot) → IsSend L → IsSend R → IsSend (ConnDesk.the_row ℓ L R g)
+Desk-send ℓ L R g log made = let conn = Conn-sync L R g log made in
     declared_send (ConnDesk.the_type ℓ L R g) (search (sendable, conn) depth 20, (Seat-row, tt))
 
 -- the worker goes to a thread with its seat and its trees, if the disk of their store may be sent
@@ -219,8 +224,8 @@ Trees-send D g disk =
 pub Worker-send : (D : RattleType) (g : DiskGhosts D.Denot) → IsSend D → IsSend (Worker.the_row D g)
 Worker-send D g disk = declared_send (Worker.the_type D g) (Seat-row, (Trees-send D g disk, (ended.the_send, tt)))
 
--- a session is sent with its desk, if the log, its source and its sink may be
-pub Job-send : (ℓ : NamedLft) (I O L R : RattleType) (g : Ghosts L.Denot R.Denot) → IsSend I → IsSend O → IsSend L → IsSend (Job.the_row ℓ I
-    O L R g)
-Job-send ℓ I O L R g source sink log =
-    declared_send (Job.the_type ℓ I O L R g) (Desk-send ℓ L R g log, (out.the_send I O source sink, tt))
+-- a session is sent with its desk, if the log with its records, its source and its sink may be
+pub Job-send : (ℓ : NamedLft) (I O L R : RattleType) (g : Ghosts L.Denot R.Denot) → IsSend I → IsSend O → IsSend L → IsSend R
+    → IsSend (Job.the_row ℓ I O L R g)
+Job-send ℓ I O L R g source sink log made =
+    declared_send (Job.the_type ℓ I O L R g) (Desk-send ℓ L R g log made, (out.the_send I O source sink, tt))

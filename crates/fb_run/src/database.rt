@@ -11,6 +11,7 @@ ghost use Rattle.fb_run.specs.Database.{SameStreams, AreDisksOf, IsReopened, IsR
 ghost use Rattle.fb_run.specs.Running.{IsMade};
 
 use crate::lines::Reach;
+use crate::loading::IN_MEMORY;
 use crate::merging::{Trees, Worker};
 use crate::opening::Unopened;
 use disk_log::DiskLog;
@@ -23,6 +24,12 @@ use merge_worker::{WorkEnd, base_of};
 use seg_store::SegStore;
 use std::alloc::Global;
 use std::thread::{Threads, available_parallelism};
+
+/// So many sessions at least are in line where one has the turn, one supposes, and one writes its reply.
+const IN_LINE: u32 = 3;
+
+/// The holder of the turn and two that stay awake.
+const AT_ONCE: usize = 3;
 
 /// The two disks of a directory.
 #[derive(Drop)]
@@ -187,11 +194,19 @@ pub(crate) struct Connection<D: Disk> {
     pub(crate) worker: Worker<D>,
 }
 
-/// How long who is next in line for a turn stays awake on this machine. One that does not tell of its processors counts as having one.
-pub(crate) fn patience_here<R: Threads>(rt: &R) -> Patience {
-    match available_parallelism(rt) {
-        Ok(count) => Patience::on(count.get()),
-        Err(_) => Patience::on(1),
+/// How long who waits for a turn stays awake on this machine, and whether sessions suppose what the turns before theirs come to. They
+/// do where it takes a sync of a file less: in a directory, where enough of them are in line, and processors for two that wait. A
+/// machine that does not tell of its processors counts as having one.
+pub(crate) fn patience_for<R: Threads>(rt: &R, directory: &str, sessions: u32) -> Patience {
+    let processors = match available_parallelism(rt) {
+        Ok(count) => count.get(),
+        Err(_) => 1,
+    };
+    let one = Patience::on(processors);
+    if directory == IN_MEMORY || sessions < IN_LINE || processors < AT_ONCE {
+        one
+    } else {
+        one.of_both()
     }
 }
 

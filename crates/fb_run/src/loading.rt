@@ -45,7 +45,7 @@ use std::sync::Wait;
 use std::thread::Threads;
 
 /// The directory whose history is in memory alone.
-const IN_MEMORY: &str = ":memory:";
+pub(crate) const IN_MEMORY: &str = ":memory:";
 
 /// The sessions, by their numbers. The last one installs the attributes.
 const NAMES: [&str; 5] = ["0", "1", "2", "3", "4"];

@@ -26,7 +26,7 @@ ghost use Rattle.fb_run.specs.Database.{IsReopened};
 ghost use Rattle.fb_run.specs.Running.{RepliesBy, HaveEnded, HandsLogBack, HandsBothBack, GoesOnFrom};
 
 use crate::backing::back_up;
-use crate::database::{Connection, connected, patience_here};
+use crate::database::{Connection, connected, patience_for};
 use crate::ending::{closed, cut_short, not_begun, without_session};
 use crate::jobs::{room_for, serve_all};
 use crate::lines::{out_of_memory, usage};
@@ -311,7 +311,9 @@ pub(crate) fn run_opened<
         return cut_short(alloc, directory.into_disks());
     };
     let merge_at = command.options.merge_at;
-    match connected(alloc, directory, count as u32, merge_at, patience_here(rt)) {
+    let number = count as u32;
+    let patience = patience_for(rt, command.directory, number);
+    match connected(alloc, directory, number, merge_at, patience) {
         Ok(
             Connection {
                 conn,

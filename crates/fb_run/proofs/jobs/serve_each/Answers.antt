@@ -20,13 +20,13 @@ use Rattle.fb_run.proofs.jobs.serve_each.Goals as goal
 pub beside-requires-send-J : goal.beside-requires-send-J
 beside-requires-send-J g c κs within =
     let job = Job-send (named_lft 22 16 tt κs) (param 2 g.row.I) (param 3 g.row.O) (param 1 g.row.L) (param 9 g.row.L-Record) g.L.Log
-    c.type_bounds.send-I c.type_bounds.send-O c.type_bounds.send-L in
+    c.type_bounds.send-I c.type_bounds.send-O c.type_bounds.send-L c.type_bounds.send-L-Record in
     param_send 3 _ (arg_send _ no _ job)
 
 -- what the worker's closure captures, in the order of its uses
 pub beside-requires-send-M : goal.beside-requires-send-M
 beside-requires-send-M g c κs within =
-    let conn = Conn-sync (param 1 g.row.L) (param 9 g.row.L-Record) g.L.Log c.type_bounds.send-L in
+    let conn = Conn-sync (param 1 g.row.L) (param 9 g.row.L-Record) g.L.Log c.type_bounds.send-L c.type_bounds.send-L-Record in
     let worker = Worker-send (param 8 g.row.D) g.D.Disk c.type_bounds.send-D in
     let captures = type_at _ (ShrRef _ _ (param 0 g.row.R) ∷ ShrRef _ _ Global.the_row ∷ ShrRef _ _ (Conn.the_row (param 1 g.row.L) (param 9
     g.row.L-Record) g.L.Log)
