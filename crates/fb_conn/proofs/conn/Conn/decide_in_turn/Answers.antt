@@ -1,8 +1,7 @@
-use Rattle.std.proofs.Common.{rules, ◌≡◌, ◌∙◌, ℤ, List, Option, Some, None, ap, sym, subst, w64, to_z, of_z, FitsSigned}
+use Rattle.std.proofs.Common.{rules, ◌≡◌, ◌∙◌, ℤ, Option, Some, None, ap, sym, subst, w64, to_z, of_z, FitsSigned}
 use Rattle.std.specs.Prelude.{option_map, Result, Ok, Err, IfErr, IsErrAnd}
 use Rattle.std.proofs.lemmas.Int.{to_z-of_z}
 use Rattle.edn_form.specs.View.{form_of}
-use Rattle.fb_values.specs.declared.facts.Entry.{Entry}
 use Rattle.fb_model.specs.History.{basis}
 use Rattle.fb_model.proofs.LawfulHistories.{IsLawful-length}
 use Rattle.edn_model.specs.Form.{Form}
