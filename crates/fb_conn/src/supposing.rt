@@ -9,11 +9,7 @@ use edn_form::Edn;
 use fb_core::{Draft, Guard, TxStop, supposed};
 use fb_log::Log;
 use fb_view::Snapshot;
-use std::hint::spin_loop;
 use std::sync::Wait;
-
-/// So often it looks for the value before its turn in each of the board's rounds.
-const LOOKS: u32 = 64;
 
 /// A transaction of which it is supposed what it comes to.
 #[derive(Drop)]
@@ -39,23 +35,25 @@ impl<'a, L: Log, R: Wait, G: Guard<Snapshot>> Meanwhile for Supposing<'a, L, R, 
 }
 
 impl<'a, L: Log, R: Wait, G: Guard<Snapshot>> Supposing<'a, L, R, G> {
-    /// The value before the ticket's turn, if somebody shows it while the turn has not come.
+    /// The value before the ticket's turn, if somebody shows it before that comes. It sleeps in the ticket's bed, so that whoever ends a
+    /// turn wakes it, and whoever shows a value after it asked.
     fn value_before(&self, tray: &Tray<L::Record>, ticket: u64) -> Option<Snapshot> {
         let board = &self.conn.board;
-        if board.is_served(ticket) {
-            return None;
-        }
-        tray.ask(ticket);
         come_near(board, self.rt, ticket);
-        for _ in 0..board.patience().rounds() {
-            if is_shown_soon(tray, ticket) {
-                return tray.before(self.rt, ticket);
-            }
+        for _ in self.rt.forever() {
             if board.is_served(ticket) {
                 return None;
             }
+            if tray.has_before(ticket) {
+                return tray.before(self.rt, ticket);
+            }
+            tray.ask(ticket);
+            board.lie_down(ticket);
+            if !tray.has_before(ticket) && !board.is_served(ticket) {
+                board.sleep(self.rt, ticket);
+            }
         }
-        None
+        unreachable!()
     }
 
     /// Lays the record of what the transaction comes to after this value, and shows the value after it. It gives the instant of the
@@ -70,40 +68,38 @@ impl<'a, L: Log, R: Wait, G: Guard<Snapshot>> Supposing<'a, L, R, G> {
                 let instant = entry.instant;
                 let record = L::record(self.conn.alloc, entry).ok()?;
                 tray.lay(self.rt, ticket, record);
-                tray.show(self.rt, ticket, after);
+                tray.show_supposed(self.rt, ticket, after);
+                self.wake_after(tray, ticket);
                 Some(instant)
             }
             Err(TxStop::Refused(_)) => {
-                tray.show(self.rt, ticket, before);
+                tray.show_supposed(self.rt, ticket, before);
+                self.wake_after(tray, ticket);
                 None
             }
             Err(TxStop::Memory) => None,
         }
     }
 
-    /// The record that is likely to come after the draft's, where somebody waits. If the draft is another than was supposed, so is
-    /// whatever was supposed after it: its value is shown, so that others suppose rightly from then on.
+    /// Wakes who asked for the value after the ticket's turn.
+    fn wake_after(&self, tray: &Tray<L::Record>, ticket: u64) {
+        if tray.is_asked_after(ticket) {
+            self.conn.board.wake();
+        }
+    }
+
+    /// The record that is likely to come after the draft's. If the draft is another than was supposed, so is whatever was supposed after
+    /// it: its value is shown, so that others suppose rightly from then on. So it is where nothing was supposed and somebody asks.
     pub(crate) fn next_record(&self, seat: &Seat, draft: &Draft) -> Option<L::Record> {
         let tray = self.conn.tray.as_ref()?;
         let ticket = seat.board.ticket()?;
-        if !tray.is_asked_after(ticket) {
-            return None;
+        if self.instant == Some(draft.entry().instant) {
+            return tray.take(self.rt, ticket.wrapping_add(1));
         }
-        if self.instant != Some(draft.entry().instant) {
+        if self.instant.is_some() || tray.is_asked_after(ticket) {
             tray.show(self.rt, ticket, draft.after().share().ok()?);
-            return None;
+            self.wake_after(tray, ticket);
         }
-        tray.take(self.rt, ticket.wrapping_add(1))
+        None
     }
-}
-
-/// Looks a few times, and says whether the value before the ticket's turn is shown.
-fn is_shown_soon<T: Drop>(tray: &Tray<T>, ticket: u64) -> bool {
-    for _ in 0..LOOKS {
-        if tray.has_before(ticket) {
-            return true;
-        }
-        spin_loop();
-    }
-    false
 }

@@ -23,9 +23,9 @@ struct Laid<R: Drop> {
 
 #[derive(Drop)]
 pub(crate) struct Tray<R: Drop> {
-    /// The last ticket whose session waited for the value before its turn.
-    awaited: AtomicU64,
-    /// The ticket of the value that was shown last.
+    /// The last ticket whose session asked for the value before its turn.
+    asked: AtomicU64,
+    /// The ticket of the value that was shown last. It changes under the lock alone.
     seen: AtomicU64,
     shown: Mutex<Option<Shown>>,
     /// Two in line may suppose at once, so that the record of the second does not push out that of the first.
@@ -36,7 +36,7 @@ pub(crate) struct Tray<R: Drop> {
 impl<R: Drop> Tray<R> {
     pub(crate) fn new() -> Tray<R> {
         Tray {
-            awaited: AtomicU64::new(0),
+            asked: AtomicU64::new(0),
             seen: AtomicU64::new(u64::MAX),
             shown: Mutex::new(None),
             even: Mutex::new(None),
@@ -44,16 +44,16 @@ impl<R: Drop> Tray<R> {
         }
     }
 
-    /// Says that somebody waits for the value before the ticket's turn.
+    /// Says that somebody is about to sleep until the value before the ticket's turn is shown. It has to look once more before it does.
     pub(crate) fn ask(&self, ticket: u64) {
-        if self.awaited.load(SeqCst) < ticket {
-            self.awaited.store(ticket, SeqCst);
+        if self.asked.load(SeqCst) < ticket {
+            self.asked.store(ticket, SeqCst);
         }
     }
 
-    /// Whether somebody waits for the value after the ticket's turn, or for a later one. Where two ask at the same time it may miss one.
+    /// Whether somebody asked for the value after the ticket's turn, or for a later one. Where two ask at the same time it may miss one.
     pub(crate) fn is_asked_after(&self, ticket: u64) -> bool {
-        self.awaited.load(SeqCst) > ticket
+        self.asked.load(SeqCst) > ticket
     }
 
     /// Whether the value before the ticket's turn is shown.
@@ -70,13 +70,26 @@ impl<R: Drop> Tray<R> {
         }
     }
 
-    /// Shows the value after the ticket's turn.
+    /// Shows the value after the ticket's turn, which came to it.
     pub(crate) fn show<W: Wait>(&self, rt: &W, ticket: u64, value: Snapshot) {
         let mut shown = self.shown.lock(rt);
         let last = mem::replace(&mut *shown, Some(Shown { ticket, value }));
         self.seen.store(ticket, SeqCst);
         drop(shown);
         // The older value is dropped where nobody waits for the lock.
+        drop(last);
+    }
+
+    /// Shows the value that the ticket's turn is supposed to come to, where the one before it is still shown. If it is not, a turn has
+    /// come to something else since, and shows that.
+    pub(crate) fn show_supposed<W: Wait>(&self, rt: &W, ticket: u64, value: Snapshot) {
+        let mut shown = self.shown.lock(rt);
+        if !self.has_before(ticket) {
+            return;
+        }
+        let last = mem::replace(&mut *shown, Some(Shown { ticket, value }));
+        self.seen.store(ticket, SeqCst);
+        drop(shown);
         drop(last);
     }
 
