@@ -12,6 +12,8 @@ use Rattle.fb_conn.specs.contracts.home.HomeNamed.TheImpl.{no_dict, ghosts as ho
 use Rattle.fb_conn.specs.contracts.letters.LetterNamed.TheImpl.{ghosts as letters}
 use Rattle.fb_conn.specs.contracts.letters.LetterMailed.TheImpl.{ghosts as mailed}
 use Rattle.std.proofs.Crossing as heap
+use Rattle.std.specs.contracts.option.Option as Option
+use Rattle.std.specs.contracts.sync.Mutex as Mutex
 use Rattle.std_heap.proofs.Global.TheSendSync as handle
 use Rattle.fb_values.proofs.facts.Datom.TheSendSync as datom
 use Rattle.fb_chunks.proofs.tree.Tree.TheLaws.TheKnot as chunks
@@ -40,12 +42,14 @@ use Rattle.fb_core.specs.contracts.accepting.Draft as Draft
 use Rattle.board_rule.proofs.seat.BoardSeat.TheSendSync as board_seat
 use Rattle.board_rule.proofs.board.Board.TheSendSync as board
 use Rattle.fb_conn.proofs.bell.Doorbell.TheSendSync as bell
-use Rattle.fb_conn.proofs.tray.Tray.TheSendSync as tray
 use Rattle.fb_log.specs.declared.logs.Log.{Ghosts}
 use Rattle.fb_conn.specs.contracts.seats.Seat as Seat
 use Rattle.fb_conn.specs.contracts.letters.Letter as Letter
 use Rattle.fb_conn.specs.contracts.home.Kept as Kept
 use Rattle.fb_conn.specs.contracts.home.Home as Home
+use Rattle.fb_conn.specs.contracts.tray.Shown as Shown
+use Rattle.fb_conn.specs.contracts.tray.Laid as Laid
+use Rattle.fb_conn.specs.contracts.tray.Tray as Tray
 use Rattle.fb_conn.specs.contracts.conn.Conn as Conn
 use Rattle.conn_desk.specs.contracts.desks.ConnDesk as ConnDesk
 use Rattle.fb_roots.proofs.bases.Base.TheSendSync as base
@@ -198,15 +202,38 @@ Home-row : (L R : RattleType) (g : Ghosts L.Denot R.Denot) → IsSend L → IsSe
 Home-row L R g log =
     view_send _ _ _ _ _ (declared_send (Home.TheInside.the_type L R g) (heap.Box-send (Kept.the_row L) (Kept-row L log), tt))
 
+Option-send : (T : RattleType) → IsSend T → IsSend (Option.the_row T)
+Option-send T s = search sendable depth 30
+
+Option-sync : (T : RattleType) → IsSync T → IsSync (Option.the_field T).row
+Option-sync T y = search sendable depth 30
+
+-- one or none, under a lock
+Locked-sync : (T : RattleType) → IsSend T → IsSync (Mutex.the_row (Option.the_row T))
+Locked-sync T s = let inside = Option-send T s in search (heap.crosses, inside) depth 20
+
+Shown-send : IsSend Shown.the_row
+Shown-send = search (sendable, Snapshot-send) depth 20
+
+Laid-send : (R : RattleType) → IsSend R → IsSend (Laid.the_row R)
+Laid-send R made = declared_send (Laid.the_type R) (search sendable depth 20, (as_row_send (row_field R) made, tt))
+
+-- sessions show each other values and records under locks, so their tray is shared if records may be sent
+Tray-sync : (R : RattleType) → IsSend R → IsSync (Tray.the_row R)
+Tray-sync R made =
+    let shown = as_row_sync (Mutex.the_field (Option.the_row Shown.the_row)) (Locked-sync Shown.the_row Shown-send) in
+    let laid = as_row_sync (Mutex.the_field (Option.the_row (Laid.the_row R))) (Locked-sync (Laid.the_row R) (Laid-send R made)) in
+    declared_sync (Tray.the_type R) (search heap.crosses depth 20, (search heap.crosses depth 20, (shown, (laid, (laid, tt)))))
+
 -- the connection is shared, whatever its log, if that and its records may be sent
 pub Conn-sync : (L R : RattleType) (g : Ghosts L.Denot R.Denot) → IsSend L → IsSend R → IsSync (Conn.the_row L R g)
 Conn-sync L R g log made =
     let shared = board.the_sync (Home.the_row L R g) Letter.the_row Entry.the_row L unit (homes L R g no_dict no_dict no_dict) mailed
     letters (Home-row L R g log) Letter-row in
-    let supposed = tray.the_sync R made in
+    let tray = as_row_sync (Option.the_field (Tray.the_row R)) (Option-sync (Tray.the_row R) (Tray-sync R made)) in
     declared_sync (Conn.the_type L R g) (
       handle.the_sync,
-      (shared, (bell.the_sync, (search (sendable, supposed) depth 30, (search sendable, tt)))),
+      (shared, (bell.the_sync, (tray, (search sendable, tt)))),
     )
 
 Seat-row : IsSend Seat.the_row
