@@ -264,7 +264,7 @@ fn a_file_of_mostly_dead_nodes_starts_anew(rt: HostRuntime) -> Result<(), Fail> 
 }
 
 /// The file with a byte changed.
-fn flipped(alloc: Global, file: &[u8], place: usize) -> Result<Vec<u8>, Memory> {
+pub(crate) fn flipped(alloc: Global, file: &[u8], place: usize) -> Result<Vec<u8>, Memory> {
     let mut bytes = Vec::from_slice(alloc, file)?;
     if let Some(byte) = bytes.get_mut(place) {
         *byte ^= 1;

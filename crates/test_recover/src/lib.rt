@@ -1,4 +1,5 @@
-//! Opening the documented log, as it is and with bytes changed, the roots that a history agrees with, backups, and files with a hole.
+//! Opening the documented log, as it is and with bytes changed, the roots that a history agrees with, the newest root alone, backups, and
+//! files with a hole.
 #![tactic(auto)]
 
 #[cfg(test)]
@@ -7,5 +8,7 @@ mod fb_backup_tests;
 mod fb_recover_tests;
 #[cfg(test)]
 mod hole_tests;
+#[cfg(test)]
+mod newest_tests;
 #[cfg(test)]
 mod seg_agree_tests;
