@@ -57,6 +57,16 @@ impl Stage {
         }
     }
 
+    /// The lines that end in these bytes were taken. They are the last ones of `turns`.
+    fn pass_lines(&self, turns: &mut Vec<u64>, bytes: &[u8]) {
+        for byte in bytes.iter() {
+            if *byte == b'\n' {
+                let _line = turns.pop();
+                self.lines.fetch_add(1, Ordering::SeqCst);
+            }
+        }
+    }
+
     /// Waits until the word is so great.
     fn look_for(&self, word: &AtomicU64, least: u64) {
         for _ in 0..MOST_LOOKS {
@@ -100,20 +110,8 @@ impl Sink for TurnSink<'_> {
             self.stage.await_line(*line);
         }
         let taken = self.sink.write(piece)?;
-        self.pass_lines(&piece[..taken]);
+        self.stage.pass_lines(&mut self.turns, &piece[..taken]);
         Ok(taken)
-    }
-}
-
-impl TurnSink<'_> {
-    /// The lines that end in these bytes were taken.
-    fn pass_lines(&mut self, bytes: &[u8]) {
-        for byte in bytes.iter() {
-            if *byte == b'\n' {
-                let _line = self.turns.pop();
-                self.stage.lines.fetch_add(1, Ordering::SeqCst);
-            }
-        }
     }
 }
 
